@@ -1,0 +1,2 @@
+-- What the proofs of `float` cite.
+pub mod Ways

@@ -1,0 +1,2 @@
+-- What the contracts of `float` say beyond the definitions of `ieee`.
+pub mod Parts

@@ -1,0 +1,75 @@
+-- Tests of |x| ≤ c on a grid, against a constant c = u / v that is not multiplied: a limit that no number of the grid passes (`within`), and a constant finer than the grid,
+-- against which only a zero passes (`small-is-zero`). Assumes nothing.
+use mathlib.Core.Path.{_≡_, refl, sym, ap, _∙_, subst}
+use Prim.Native.Nat.{ℕ, zero, suc, _+_, _*_, _^_, _≤_, _<_}
+use native.Mathlib.Nat.{le-trans, le-of-eq, lt-irrefl, zero-lt-suc, zero-mul, suc-mul, mul-comm, mul-assoc, mul-right-comm, mul-le-mul-right, mul-pos}
+use native.Mathlib.Omega.{arith}
+use mathlib.Core.Bool.{Bool, false, _||_}
+use lib.Dec.{T, eqb, eqb→eq, eqb·suc-zero}
+use lib.Pow.{pow-add, pow-pos}
+use lib.Ieee.{Float, nan, inf, fin, up, down, le, below, level}
+use lib.Ieee.Fits.{up-pos, down-pos}
+use lib.Ieee.Exact.{HasValue}
+use lib.Ieee.Order.{le-of-values}
+use Rattle.ieee.specs.Sign.{abs, isZero}
+use Rattle.ieee.specs.Grid.{scale, On, Twin}
+use Rattle.ieee.proofs.Tests.{same-test}
+use Rattle.ieee.proofs.Signed.{test→Le, Le→test}
+use Rattle.ieee.proofs.Value.{rescale, abs-val}
+use Rattle.ieee.proofs.Comparison.{le-at}
+use Rattle.ieee.proofs.Grid.{scale-on}
+
+-- c is u / v, and 2 ^ b at least: no number of the grid is above it
+pub within : (q b : ℕ) (x c : Float) (u v : ℕ) → On q b x → 0 < v → HasValue c false u v → 2 ^ b * v ≤ u → T (le (abs x) c)
+within q b x c u v X pv w h =
+    le-of-values (abs x) c (X .count) (2 ^ q) u v (pow-pos q) pv (abs-val x (X .sign) (X .count) (2 ^ q) (X .value)) w
+    (le-trans (mul-le-mul-right v (X .bound)) (le-trans (le-of-eq (ap (λ (z : ℕ). z * v) (pow-add 2 b q) ∙ mul-right-comm (2 ^ b) (2 ^ q) v)) (mul-le-mul-right (2 ^ q) h)))
+
+-- ---- zeros
+zero-of : (m u c n d : ℕ) → 0 < u → 0 < c → 0 < d → m * u * c ≡ n * d → eqb m 0 ≡ eqb n 0
+zero-of zero u c zero d U C D h = refl
+zero-of zero u c (suc n) d U C D h = absurd (lt-irrefl 0 (subst (λ (x : ℕ). 0 < x) (sym h ∙ ap (λ (x : ℕ). x * c) (zero-mul u) ∙ zero-mul c) (mul-pos (zero-lt-suc n) D)))
+zero-of (suc m) u c zero d U C D h = absurd (lt-irrefl 0 (subst (λ (x : ℕ). 0 < x) (h ∙ zero-mul d) (mul-pos (mul-pos (zero-lt-suc m) U) C)))
+zero-of (suc m) u c (suc n) d U C D h = eqb·suc-zero m ∙ sym (eqb·suc-zero n)
+
+zero-val : (x : Float) (s : Bool) (n c : ℕ) → 0 < c → HasValue x s n c → isZero x ≡ eqb n 0
+zero-val nan s n c C v = absurd v
+zero-val (inf t) s n c C v = absurd v
+zero-val (fin t m e) s n c C v = zero-of m (up e) c n (down e) (up-pos e) C (down-pos e) (v .1)
+
+isZero-scale : (k : ℕ) (x : Float) → isZero (scale k x) ≡ isZero x
+isZero-scale k nan = refl
+isZero-scale k (inf s) = refl
+isZero-scale k (fin s zero e) = refl
+isZero-scale k (fin s (suc m) e) = refl
+
+-- ---- ±n ≤ ±w, as `le` tests it: a multiple of v is at most w < v just where it is none
+abbrev leTest : ℕ → ℕ → Bool
+leTest n w = below false n false w || level false n false w
+
+only-zero : (n v w : ℕ) → w < v → leTest (n * v) w ≡ eqb n 0
+only-zero n v w h = same-test (leTest (n * v) w) (eqb n 0) (λ t. none n (test→Le false (n * v) false w t)) (λ t. Le→test false (n * v) false w (all n (eqb→eq n 0 t)))
+  where
+    none : (n : ℕ) → n * v + 0 ≤ w + 0 → T (eqb n 0)
+    none zero l = tt
+    none (suc n) l = absurd (omega (arith, suc-mul n v))
+
+    all : (n : ℕ) → n ≡ 0 → n * v + 0 ≤ w + 0
+    all n e = let z : n * v ≡ 0 = ap (λ (x : ℕ). x * v) e ∙ zero-mul v in omega arith
+
+-- c is below 2 ^ -q: |x| ≤ c says that x is a zero
+pub small-is-zero : (q b : ℕ) (x c : Float) (u v : ℕ) → On q b x → 0 < v → HasValue c false u v → u * 2 ^ q < v → le (abs x) c ≡ isZero x
+small-is-zero q b x c u v X pv w h =
+    le-at (abs x) c false false (X .count * v) (u * 2 ^ q) (2 ^ q * v) (mul-pos (pow-pos q) pv)
+    (rescale (abs x) false (X .count) (2 ^ q) (X .count * v) (2 ^ q * v) (pow-pos q) (mul-assoc (X .count) v (2 ^ q) ∙ ap (λ (z : ℕ). X .count * z) (mul-comm v (2 ^ q))) (abs-val x (X .sign) (X .count) (2 ^ q) (X .value)))
+    (rescale c false u v (u * 2 ^ q) (2 ^ q * v) pv (mul-assoc u (2 ^ q) v) w)
+    ∙ only-zero (X .count) v (u * 2 ^ q) h
+    ∙ sym (zero-val x (X .sign) (X .count) (2 ^ q) (pow-pos q) (X .value))
+
+-- so the test is the same for x times 2 ^ k
+pub twin-small : (k q b : ℕ) (x x' c : Float) (u v : ℕ) → Twin k q b x x' → 0 < v → HasValue c false u v → u * 2 ^ q < v → le (abs x') c ≡ le (abs x) c
+twin-small k q b x x' c u v X pv w h =
+    ap (λ (z : Float). le (abs z) c) (X .is)
+    ∙ small-is-zero q (b + k) (scale k x) c u v (scale-on k q b x (X .grid)) pv w h
+    ∙ isZero-scale k x
+    ∙ sym (small-is-zero q b x c u v (X .grid) pv w h)

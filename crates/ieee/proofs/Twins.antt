@@ -1,0 +1,118 @@
+-- One law for each operation: where the operands are multiplied by 2 ^ k, so is the result, and it is on a grid again. These are the laws to cite. Assumes nothing.
+use mathlib.Core.Path.{_≡_, refl, sym, ap, _∙_, subst}
+use Prim.Native.Nat.{ℕ, zero, suc, _+_, _≤_, _<_}
+use native.Mathlib.Omega.{arith}
+use mathlib.Core.Bool.{Bool, true, false, cond}
+use lib.Ieee.{Float, nan, inf, fin, Format, prec, emax, low, neg, add, sub, mul, lt, le, eq, isNan}
+use Rattle.ieee.specs.Sign.{abs}
+use Rattle.ieee.specs.Choice.{min, max, atLeast, atMost, clamp}
+use Rattle.ieee.specs.Fused.{fma}
+use Rattle.ieee.specs.Grid.{scale, On, Twin}
+use Rattle.ieee.proofs.Comparison.{lt-scale, le-scale, eq-scale}
+use Rattle.ieee.proofs.Operations.{mul-swap, fma-swap}
+use Rattle.ieee.proofs.Grid.{weaken, neg-on, abs-on, neg-scale, abs-scale, add-on, add-scale, add-on-absorb, add-scale-absorb, sub-on, sub-scale, mul-on, mul-scale, fma-on, fma-scale}
+
+less : (b k E : ℕ) → b + k ≤ E → b ≤ E
+less b k E h = omega arith
+
+pub twin-of : (k q b : ℕ) (x : Float) → On q b x → Twin k q b x (scale k x)
+twin-of k q b x X = record { grid = X; is = refl }
+
+pub twin-weaken : (k q b q' b' : ℕ) (x x' : Float) → q ≤ q' → b ≤ b' → Twin k q b x x' → Twin k q' b' x x'
+twin-weaken k q b q' b' x x' Q B X = record { grid = weaken q b q' b' x Q B (X .grid); is = X .is }
+
+pub twin-neg : (k q b : ℕ) (x x' : Float) → Twin k q b x x' → Twin k q b (neg x) (neg x')
+twin-neg k q b x x' X = record { grid = neg-on q b x (X .grid); is = ap neg (X .is) ∙ neg-scale k x }
+
+pub twin-abs : (k q b : ℕ) (x x' : Float) → Twin k q b x x' → Twin k q b (abs x) (abs x')
+twin-abs k q b x x' X = record { grid = abs-on q b x (X .grid); is = ap abs (X .is) ∙ abs-scale k x }
+
+pub twin-add : (f : Format) (k q b : ℕ) (x x' y y' : Float) → q ≤ low f → suc b + k ≤ emax f → Twin k q b x x' → Twin k q b y y' → Twin k q (suc b) (add f x y) (add f x' y')
+twin-add f k q b x x' y y' Q B X Y = record {
+  grid = add-on f q b x y Q (less (suc b) k (emax f) B) (X .grid) (Y .grid);
+  is = (λ i. add f (X .is i) (Y .is i)) ∙ add-scale f q b k x y Q B (X .grid) (Y .grid);
+}
+
+-- a running sum: x is at most 2 ^ b and stays so, however often a y of at most 2 ^ c is added, where c + prec < b
+pub twin-add-absorb : (f : Format) (k q b c : ℕ) (x x' y y' : Float) → q ≤ low f → b + k ≤ emax f → c + prec f < b → Twin k q b x x' → Twin k q c y y' → Twin k q b (add f x y) (add f x' y')
+twin-add-absorb f k q b c x x' y y' Q B C X Y = record {
+  grid = add-on-absorb f q b c x y Q (less b k (emax f) B) C (X .grid) (Y .grid);
+  is = (λ i. add f (X .is i) (Y .is i)) ∙ add-scale-absorb f q b c k x y Q B C (X .grid) (Y .grid);
+}
+
+pub twin-sub : (f : Format) (k q b : ℕ) (x x' y y' : Float) → q ≤ low f → suc b + k ≤ emax f → Twin k q b x x' → Twin k q b y y' → Twin k q (suc b) (sub f x y) (sub f x' y')
+twin-sub f k q b x x' y y' Q B X Y = record {
+  grid = sub-on f q b x y Q (less (suc b) k (emax f) B) (X .grid) (Y .grid);
+  is = (λ i. sub f (X .is i) (Y .is i)) ∙ sub-scale f q b k x y Q B (X .grid) (Y .grid);
+}
+
+-- a weight w, which is not multiplied, on either side
+pub twin-mul : (f : Format) (k q b r c : ℕ) (x x' w : Float) → q + r ≤ low f → b + c + k ≤ emax f → Twin k q b x x' → On r c w → Twin k (q + r) (b + c) (mul f x w) (mul f x' w)
+twin-mul f k q b r c x x' w Q B X W = record {
+  grid = mul-on f q r Q b c x w (X .grid) W (less (b + c) k (emax f) B);
+  is = ap (λ (z : Float). mul f z w) (X .is) ∙ mul-scale f q r Q b c x w (X .grid) W k B;
+}
+
+pub twin-mul-right : (f : Format) (k q b r c : ℕ) (x x' w : Float) → q + r ≤ low f → b + c + k ≤ emax f → Twin k q b x x' → On r c w → Twin k (q + r) (b + c) (mul f w x) (mul f w x')
+twin-mul-right f k q b r c x x' w Q B X W =
+    subst (λ (z : Float). Twin k (q + r) (b + c) z (mul f w x')) (mul-swap f x w)
+    (subst (λ (z : Float). Twin k (q + r) (b + c) (mul f x w) z) (mul-swap f x' w) (twin-mul f k q b r c x x' w Q B X W))
+
+-- a product with a weight and a sum, rounded once; z is on the product's grid, where `twin-weaken` takes it
+pub twin-fma : (f : Format) (k r c q b d e : ℕ) (w x x' z z' : Float) → r + q ≤ low f → c + b ≤ e → d ≤ e → suc e + k ≤ emax f → On r c w → Twin k q b x x' → Twin k (r + q) d z z' → Twin k (r + q) (suc e) (fma f w x z) (fma f w x' z')
+twin-fma f k r c q b d e w x x' z z' Q CB D E W X Z = record {
+  grid = fma-on f r q Q c b d w x z W (X .grid) (Z .grid) e CB D (less (suc e) k (emax f) E);
+  is = (λ i. fma f w (X .is i) (Z .is i)) ∙ fma-scale f r q Q c b d w x z W (X .grid) (Z .grid) e k CB D E;
+}
+
+pub twin-fma-right : (f : Format) (k r c q b d e : ℕ) (w x x' z z' : Float) → r + q ≤ low f → c + b ≤ e → d ≤ e → suc e + k ≤ emax f → On r c w → Twin k q b x x' → Twin k (r + q) d z z' → Twin k (r + q) (suc e) (fma f x w z) (fma f x' w z')
+twin-fma-right f k r c q b d e w x x' z z' Q CB D E W X Z =
+    subst (λ (v : Float). Twin k (r + q) (suc e) v (fma f x' w z')) (fma-swap f w x z)
+    (subst (λ (v : Float). Twin k (r + q) (suc e) (fma f w x z) v) (fma-swap f w x' z') (twin-fma f k r c q b d e w x x' z z' Q CB D E W X Z))
+
+-- ---- comparisons
+pub twin-lt : (k q b q' b' : ℕ) (x x' y y' : Float) → Twin k q b x x' → Twin k q' b' y y' → lt x' y' ≡ lt x y
+twin-lt k q b q' b' x x' y y' X Y = (λ i. lt (X .is i) (Y .is i)) ∙ lt-scale k x y
+
+pub twin-le : (k q b q' b' : ℕ) (x x' y y' : Float) → Twin k q b x x' → Twin k q' b' y y' → le x' y' ≡ le x y
+twin-le k q b q' b' x x' y y' X Y = (λ i. le (X .is i) (Y .is i)) ∙ le-scale k x y
+
+pub twin-eq : (k q b q' b' : ℕ) (x x' y y' : Float) → Twin k q b x x' → Twin k q' b' y y' → eq x' y' ≡ eq x y
+twin-eq k q b q' b' x x' y y' X Y = (λ i. eq (X .is i) (Y .is i)) ∙ eq-scale k x y
+
+-- ---- one of two, by a test that is the same
+pub twin-cond : (k q b : ℕ) (t t' : Bool) (x x' y y' : Float) → t' ≡ t → Twin k q b x x' → Twin k q b y y' → Twin k q b (cond t x y) (cond t' x' y')
+twin-cond k q b t t' x x' y y' p X Y = subst (λ (z : Bool). Twin k q b (cond t x y) (cond z x' y')) (sym p) (go t)
+  where
+    go : (t : Bool) → Twin k q b (cond t x y) (cond t x' y')
+    go true = X
+    go false = Y
+
+nan-scale : (k : ℕ) (x : Float) → isNan (scale k x) ≡ isNan x
+unfolding isNan
+nan-scale k nan = refl
+nan-scale k (inf s) = refl
+nan-scale k (fin s zero e) = refl
+nan-scale k (fin s (suc m) e) = refl
+
+module _ (k q b : ℕ) (x x' y y' : Float) (X : Twin k q b x x') (Y : Twin k q b y y') where
+  nan-same : isNan y' ≡ isNan y
+  nan-same = ap isNan (Y .is) ∙ nan-scale k y
+
+  pub twin-min : Twin k q b (min x y) (min x' y')
+  unfolding min
+  twin-min = twin-cond k q b (lt x y) (lt x' y') x x' (cond (isNan y) x y) (cond (isNan y') x' y') (twin-lt k q b q b x x' y y' X Y) X (twin-cond k q b (isNan y) (isNan y') x x' y y' nan-same X Y)
+
+  pub twin-max : Twin k q b (max x y) (max x' y')
+  unfolding max
+  twin-max = twin-cond k q b (lt y x) (lt y' x') x x' (cond (isNan y) x y) (cond (isNan y') x' y') (twin-lt k q b q b y y' x x' Y X) X (twin-cond k q b (isNan y) (isNan y') x x' y y' nan-same X Y)
+
+pub twin-clamp : (k q b : ℕ) (lo lo' hi hi' x x' : Float) → Twin k q b lo lo' → Twin k q b hi hi' → Twin k q b x x' → Twin k q b (clamp lo hi x) (clamp lo' hi' x')
+unfolding clamp
+twin-clamp k q b lo lo' hi hi' x x' L H X = above (atLeast lo x) (atLeast lo' x') below
+  where
+    below : Twin k q b (atLeast lo x) (atLeast lo' x')
+    below = unfold atLeast in twin-cond k q b (lt x lo) (lt x' lo') lo lo' x x' (twin-lt k q b q b x x' lo lo' X L) L X
+
+    above : (z z' : Float) → Twin k q b z z' → Twin k q b (atMost hi z) (atMost hi' z')
+    above z z' Z = unfold atMost in twin-cond k q b (lt hi z) (lt hi' z') hi hi' z z' (twin-lt k q b q b hi hi' z z' H Z) H Z

@@ -1,0 +1,12 @@
+-- The arithmetic that `lib.Ieee` leaves out, and exact multiples. One definition a rule, each total and computable.
+pub mod Literal
+pub mod Sign
+pub mod Choice
+pub mod Limit
+pub mod Whole
+pub mod Remainder
+pub mod Fused
+pub mod Root
+pub mod Cut
+pub mod Grid
+pub mod Pattern

@@ -1,0 +1,14 @@
+-- The literals that definitions cite, as the bit patterns of an f32. Definitions only.
+use lib.Ieee.{Float, binary32, ofBits}
+
+-- 0.0
+abbrev pub zero32 : Float
+zero32 = ofBits binary32 0
+
+-- 1.0
+abbrev pub one32 : Float
+one32 = ofBits binary32 0x3f80_0000
+
+-- 360.0, a whole turn in degrees
+abbrev pub turn32 : Float
+turn32 = ofBits binary32 0x43b4_0000

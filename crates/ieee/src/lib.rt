@@ -1,0 +1,1 @@
+// Floating-point definitions and laws, in specs/ and proofs/. There is no code.
