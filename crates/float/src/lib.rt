@@ -60,7 +60,7 @@ pub fn split(x: f32) -> Parts
 }
 
 // The float with the sign `negative` and the rest p of its pattern.
-fn signed(negative: bool, p: u64) -> f32
+pub fn signed(negative: bool, p: u64) -> f32
     requires { ⌜ p ≤ infinity ⌝ }
     ensures { λ r. ⌜ r ≡ Ieee.ofBits binary32 (withSign negative p) ⌝ }
 {

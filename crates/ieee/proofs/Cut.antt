@@ -107,13 +107,6 @@ cut-pow p j P = subst (λ (x : ℕ). cut p x ≡ x) (one-mul (2 ^ j)) (cut-exact
 pub cut-le-pow : (p n j : ℕ) → 0 < p → n ≤ 2 ^ j → cut p n ≤ 2 ^ j
 cut-le-pow p n j P h = le-trans (cut-mono p n (2 ^ j) P h) (le-of-eq (cut-pow p j P))
 
--- what is above zero stays so
-pub cut-pos : (p n : ℕ) → 0 < p → 0 < n → 0 < cut p n
-cut-pos p n P h = le-trans (le-of-eq (sym (cut-small p 1 (one-lt-pow p P)))) (cut-mono p 1 n P h)
-
-pub cut-zero : (p : ℕ) → cut p 0 ≡ 0
-cut-zero p = cut-small p 0 (pow-pos p)
-
 -- ---- a power of two takes up what is much smaller: 2 ^ j + 2 ^ i is cut to 2 ^ j
 absorb-exp : (p i j : ℕ) → 0 < p → i + p < j → p - 1 + (suc j - p) ≡ j
 absorb-exp p i j P h = omega arith

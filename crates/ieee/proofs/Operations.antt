@@ -20,7 +20,7 @@ pub unlike-false : (s : Bool) → unlike s false ≡ s
 unlike-false true = refl
 unlike-false false = refl
 
-pub unlike-swap : (s t : Bool) → unlike s t ≡ unlike t s
+unlike-swap : (s t : Bool) → unlike s t ≡ unlike t s
 unlike-swap true true = refl
 unlike-swap true false = refl
 unlike-swap false true = refl

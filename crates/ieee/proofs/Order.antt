@@ -1,6 +1,7 @@
 -- `le` is a total order on the floats that are no NaN, up to a zero's sign; changing signs turns it round; and the larger of two fractions rounds to a float that is no smaller.
 -- Assumes nothing.
 use mathlib.Core.Path.{_≡_, refl, sym, ap, _∙_, subst}
+use mathlib.Core.Logic.{_⊎_, inl, inr}
 use Prim.Native.Nat.{ℕ, zero, suc, _+_, _*_, _^_, _≤_, _<_}
 use native.Mathlib.Nat.{zero-lt-suc, zero-mul, suc-mul, mul-right-comm}
 use native.Mathlib.Omega.{arith}
@@ -130,7 +131,7 @@ lt→le x y h = go (lt x y) (eq x y) h
     go true b t = tt
     go false b t = absurd t
 
--- total: what is not below is no smaller
+-- what is not below is no smaller, so the order is total
 pub not-lt→le : (x y : Float) → T (isNumber x) → T (isNumber y) → T (not (lt x y)) → T (le y x)
 unfolding lt
 not-lt→le nan y p q h = absurd p
@@ -145,6 +146,13 @@ not-lt→le (fin s m e) nan p q h = absurd q
 not-lt→le (fin s m e) (inf true) p q h = unfold le in tt
 not-lt→le (fin s m e) (inf false) p q h = absurd h
 not-lt→le (fin s m e) (fin t n d) p q h = Le→le t n d s m e (not-below s (m * up e * down d) t (n * up d * down e) h)
+
+pub le-total : (x y : Float) → T (isNumber x) → T (isNumber y) → T (le x y) ⊎ T (le y x)
+le-total x y p q = go (lt x y) refl
+  where
+    go : (b : Bool) → lt x y ≡ b → T (le x y) ⊎ T (le y x)
+    go true e = inl (lt→le x y (subst T (sym e) tt))
+    go false e = inr (not-lt→le x y p q (subst (λ (b : Bool). T (not b)) (sym e) tt))
 
 -- ---- a function that keeps the infinities and is monotone on finite values is monotone
 module _ (g : Float → Float) (keeps : (s : Bool) → g (inf s) ≡ inf s) (mono : (s : Bool) (m : ℕ) (e : ℤ) (t : Bool) (n : ℕ) (d : ℤ) → T (le (fin s m e) (fin t n d)) → T (le (g (fin s m e)) (g (fin t n d)))) where
@@ -239,7 +247,7 @@ unfolding le neg
 zeros = tt
 
 -- x * k is at most a sum that is nothing
-pub none : (x k y : ℕ) → 0 < k → x * k + y ≤ 0 + 0 → x ≡ 0
+none : (x k y : ℕ) → 0 < k → x * k + y ≤ 0 + 0 → x ≡ 0
 none zero k y K h = refl
 none (suc x) k y K h = absurd (omega (arith, suc-mul x k))
 

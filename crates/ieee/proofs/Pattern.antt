@@ -83,8 +83,12 @@ unfolding ofBits
 pattern-inf true = refl
 pattern-inf false = refl
 
+-- ---- what is no NaN's
+pub rest-ok : (b : ℕ) → b % 2 ^ 31 ≤ infinity → T (not (nanBits binary32 b))
+rest-ok b h = subst (λ (x : Bool). T (not x)) (sym (nanBits-above binary32 b)) (le→nltb infinity (b % 2 ^ 31) h)
+
 pub pattern-ok : (s : Bool) (p : ℕ) → p ≤ infinity → T (not (nanBits binary32 (withSign s p)))
-pattern-ok s p h = subst (λ (b : Bool). T (not b)) (sym (nanBits-above binary32 (withSign s p) ∙ ap (λ (x : ℕ). ltb infinity x) (rest-is s p (omega arith)))) (le→nltb infinity p h)
+pattern-ok s p h = rest-ok (withSign s p) (subst (λ (x : ℕ). x ≤ infinity) (sym (rest-is s p (omega arith))) h)
 
 -- ---- a pattern written: q * 2 ^ k units, where q has 24 digits, or fewer if k is 0. A q of 2 ^ 24 is the next k's 2 ^ 23, and the sum carries by itself
 module _ (q k : ℕ) (q-le : q ≤ 2 ^ 24) (full : 0 < k → 2 ^ 23 ≤ q) where
@@ -150,6 +154,13 @@ module _ (q k : ℕ) (q-le : q ≤ 2 ^ 24) (full : 0 < k → 2 ^ 23 ≤ q) where
 
   pub write-inf : (s : Bool) → infinity ≤ k * 2 ^ 23 + q → ofBits binary32 (withSign s infinity) ≡ units binary32 s q k
   write-inf s h = pattern-inf s ∙ sym (units-inf binary32 s q k (over h))
+
+  -- up to the infinity's own pattern the sum is written as it stands
+  pub write : (s : Bool) → k * 2 ^ 23 + q ≤ infinity → ofBits binary32 (withSign s (k * 2 ^ 23 + q)) ≡ units binary32 s q k
+  write s h = elim (eq-or-lt-of-le h) [
+    | inl e ↦ ap (λ (p : ℕ). ofBits binary32 (withSign s p)) e ∙ write-inf s (le-of-eq (sym e))
+    | inr l ↦ write-finite s l
+  ]
 
 -- ---- a float by its own pattern
 module _ (x : Float) (held : T (fits binary32 x)) where

@@ -1,18 +1,22 @@
--- The ways from a fraction to a whole number see only its value, stay at a whole number, and are monotone; so `floor`, `ceil` and `roundAway` are. Assumes nothing.
+-- The ways from a fraction to a whole number see only its value, stay at a whole number, and are monotone; and so do and are `floor`, `ceil` and `roundAway`.
+-- Assumes nothing.
 use mathlib.Core.Path.{_≡_, refl, sym, ap, _∙_, subst}
 use Prim.Native.Nat.{ℕ, zero, suc, _+_, _*_, _/_, _%_, _≤_, _<_}
-use native.Mathlib.Nat.{le-trans, le-of-eq, le-antisymm, lt-of-lt-of-le, add-zero, mul-one, zero-mul, zero-lt-suc, mul-pos, mul-comm, mul-left-comm, mul-right-comm, mul-mul-mul-comm, mul-le-mul-right, le-of-mul-le-mul-right, lt-of-mul-lt-mul-right, add-mul, zero-div, div-one, div-add-mod', mod-lt, div-lt-iff-lt-mul}
+use native.Mathlib.Nat.{le-trans, le-of-eq, le-antisymm, lt-of-lt-of-le, mul-one, zero-mul, suc-mul, zero-lt-suc, mul-pos, mul-comm, mul-left-comm, mul-right-comm, mul-mul-mul-comm, mul-le-mul-right, le-of-mul-le-mul-right, lt-of-mul-lt-mul-right, add-mul, div-one, div-add-mod', mod-lt}
 use native.Mathlib.Omega.{arith}
 use mathlib.Core.Bool.{Bool, true, false, not, cond}
 use lib.IntN.{ℤ}
 use lib.Dec.{T, ltb, ltb→lt, nltb→le}
-use lib.Arith.{le-zero, lt-one}
-use lib.Ieee.{Float, nan, inf, fin, Format, up, down, round, le}
+use lib.Ieee.{Float, nan, inf, fin, Format, up, down, round, le, fits}
 use lib.Ieee.Fits.{down-pos}
+use lib.Ieee.Exact.{HasValue}
+use lib.Ieee.Scale.{finite}
 use lib.Ieee.Nearest.{div-mono}
 use Rattle.ieee.specs.Whole.{wholeDown, wholeUp, wholeNear, floor, ceil, roundAway}
+use Rattle.ieee.proofs.Value.{rescale}
+use Rattle.ieee.proofs.Round.{round-own}
 use Rattle.ieee.proofs.Signed.{Le, Le-zeros}
-use Rattle.ieee.proofs.Order.{le→Le, round-le, extend, none}
+use Rattle.ieee.proofs.Order.{le→Le, round-le, extend}
 
 -- ---- each way is monotone in the value of its fraction
 abbrev pub Mono : (ℕ → ℕ → ℕ) → Type 0
@@ -77,76 +81,111 @@ near-exact c d D = same-of-mono wholeNear near-mono (c * d) d c 1 D (zero-lt-suc
     go : (2 * c + 1) / 2 ≡ c
     go = omega arith
 
--- ---- a way for each sign
-module _ (w : Bool → ℕ → ℕ → ℕ) (mono : (s : Bool) → Mono (w s)) (nil : (s : Bool) (c : ℕ) → 0 < c → w s 0 c ≡ 0) where
-  whole-Le : (s : Bool) (a c : ℕ) (t : Bool) (b d : ℕ) → 0 < c → 0 < d → Le s (a * d) t (b * c) → Le s (w s a c * 1) t (w t b d * 1)
-  whole-Le false a c false b d C D l = let m = mono false a c b d C D (omega arith) in omega arith
-  whole-Le false a c true b d C D l =
-      Le-zeros false true (w false a c * 1) (w true b d * 1)
-      (mul-one (w false a c) ∙ ap (λ (z : ℕ). w false z c) (none a d (b * c) D l) ∙ nil false c C)
-      (mul-one (w true b d) ∙ ap (λ (z : ℕ). w true z d) (none b c (a * d) C (omega arith)) ∙ nil true d D)
-  whole-Le true a c false b d C D l = omega arith
-  whole-Le true a c true b d C D l = let m = mono true b d a c D C (omega arith) in omega arith
+-- ---- a way for each sign, and a float function that goes it
+pub record Way (w : Bool → ℕ → ℕ → ℕ) : Type 0 where
+  pub mono : (s : Bool) → Mono (w s)
+  pub exact : (s : Bool) (c d : ℕ) → 0 < d → w s (c * d) d ≡ c
 
-  whole-le : (f : Format) (g : Float → Float) → ((s : Bool) → g (inf s) ≡ inf s) → ((s : Bool) (m : ℕ) (e : ℤ) → g (fin s m e) ≡ round f s (w s (m * up e) (down e)) 1)
-      → (x y : Float) → T (le x y) → T (le (g x) (g y))
-  whole-le f g keeps is = extend g keeps go
+pub record Goes (f : Format) (w : Bool → ℕ → ℕ → ℕ) (g : Float → Float) : Type 0 where
+  pub stays : g nan ≡ nan
+  pub keeps : (s : Bool) → g (inf s) ≡ inf s
+  pub is : (s : Bool) (m : ℕ) (e : ℤ) → g (fin s m e) ≡ round f s (w s (m * up e) (down e)) 1
+
+module _ (f : Format) (w : Bool → ℕ → ℕ → ℕ) (g : Float → Float) (W : Way w) (G : Goes f w g) where
+  -- by the value of its operand
+  pub whole-at : (x : Float) (s : Bool) (a c : ℕ) → 0 < c → HasValue x s a c → g x ≡ round f s (w s a c) 1
+  whole-at nan s a c C v = absurd v
+  whole-at (inf t) s a c C v = absurd v
+  whole-at (fin t m e) s a c C v =
+      G .is t m e
+      ∙ ap (λ (b : Bool). round f b (w b (m * up e) (down e)) 1) (v .0)
+      ∙ ap (λ (n : ℕ). round f s n 1) (same-of-mono (w s) (W .mono s) (m * up e) (down e) a c (down-pos e) C (v .1))
+
+  -- a whole number stays
+  pub whole-own : (x : Float) (s : Bool) (n c : ℕ) → 0 < c → T (fits f x) → HasValue x s (n * c) c → g x ≡ x
+  whole-own x s n c C t v =
+      whole-at x s (n * c) c C v
+      ∙ ap (λ (k : ℕ). round f s k 1) (W .exact s n c C)
+      ∙ round-own f x s n 1 t (zero-lt-suc 0) (rescale x s (n * c) c n 1 C (sym (mul-one (n * c))) v)
+
+  -- and so does what is not finite
+  pub whole-special : (x : Float) → finite x ≡ false → g x ≡ x
+  whole-special nan h = G .stays
+  whole-special (inf s) h = G .keeps s
+  whole-special (fin s m e) h = absurd (subst T h tt)
+
+  nil : (s : Bool) (a c k : ℕ) → 0 < c → 0 < k → a * k ≡ 0 → w s a c * 1 ≡ 0
+  nil s a c k C K h = mul-one (w s a c) ∙ ap (λ (z : ℕ). w s z c) (zero-of a h ∙ sym (zero-mul c)) ∙ W .exact s 0 c C
+    where
+      zero-of : (a : ℕ) → a * k ≡ 0 → a ≡ 0
+      zero-of zero h = refl
+      zero-of (suc a) h = absurd (omega (arith, suc-mul a k))
+
+  whole-Le : (s : Bool) (a c : ℕ) (t : Bool) (b d : ℕ) → 0 < c → 0 < d → Le s (a * d) t (b * c) → Le s (w s a c * 1) t (w t b d * 1)
+  whole-Le false a c false b d C D l = let m = W .mono false a c b d C D (omega arith) in omega arith
+  whole-Le false a c true b d C D l = Le-zeros false true (w false a c * 1) (w true b d * 1) (nil false a c d C D (omega arith)) (nil true b d c D C (omega arith))
+  whole-Le true a c false b d C D l = omega arith
+  whole-Le true a c true b d C D l = let m = W .mono true b d a c D C (omega arith) in omega arith
+
+  whole-le : (x y : Float) → T (le x y) → T (le (g x) (g y))
+  whole-le = extend g (G .keeps) go
     where
       go : (s : Bool) (m : ℕ) (e : ℤ) (t : Bool) (n : ℕ) (d : ℤ) → T (le (fin s m e) (fin t n d)) → T (le (g (fin s m e)) (g (fin t n d)))
       go s m e t n d h =
-          subst (λ (v : Float). T (le v (g (fin t n d)))) (sym (is s m e))
-          (subst (λ (v : Float). T (le (round f s (w s (m * up e) (down e)) 1) v)) (sym (is t n d))
+          subst (λ (v : Float). T (le v (g (fin t n d)))) (sym (G .is s m e))
+          (subst (λ (v : Float). T (le (round f s (w s (m * up e) (down e)) 1) v)) (sym (G .is t n d))
           (round-le f s (w s (m * up e) (down e)) 1 t (w t (n * up d) (down d)) 1 (zero-lt-suc 0) (zero-lt-suc 0)
           (whole-Le s (m * up e) (down e) t (n * up d) (down d) (down-pos e) (down-pos d) (le→Le s m e t n d h))))
 
-down-zero : (c : ℕ) → wholeDown 0 c ≡ 0
-down-zero c = zero-div c
+-- ---- the three of them
+abbrev pub floorWay : Bool → ℕ → ℕ → ℕ
+floorWay s a c = cond s (wholeUp a c) (wholeDown a c)
 
-up-zero : (c : ℕ) → 0 < c → wholeUp 0 c ≡ 0
-up-zero c C = le-zero (up-le 0 c 0 C (le-of-eq (sym (zero-mul c))))
+abbrev pub ceilWay : Bool → ℕ → ℕ → ℕ
+ceilWay s a c = cond s (wholeDown a c) (wholeUp a c)
 
-near-zero : (c : ℕ) → 0 < c → wholeNear 0 c ≡ 0
-near-zero c C = lt-one (div-lt-iff-lt-mul (mul-pos (zero-lt-suc 1) C) .1 (omega arith))
+abbrev pub nearWay : Bool → ℕ → ℕ → ℕ
+nearWay s = wholeNear
 
-pub floor-le : (f : Format) (x y : Float) → T (le x y) → T (le (floor f x) (floor f y))
-floor-le f = whole-le (λ (s : Bool) (a c : ℕ). cond s (wholeUp a c) (wholeDown a c)) mono nil f (floor f) keeps is
+-- one way for negative sizes and another for the rest
+signed-way : (g h : ℕ → ℕ → ℕ) → Mono g → Mono h → ((c d : ℕ) → 0 < d → g (c * d) d ≡ c) → ((c d : ℕ) → 0 < d → h (c * d) d ≡ c) → Way (λ s a c. cond s (g a c) (h a c))
+signed-way g h gm hm ge he = record { mono = mono; exact = exact }
   where
-    mono : (s : Bool) → Mono (λ (a c : ℕ). cond s (wholeUp a c) (wholeDown a c))
-    mono true = up-mono
-    mono false = down-mono
+    mono : (s : Bool) → Mono (λ a c. cond s (g a c) (h a c))
+    mono true = gm
+    mono false = hm
 
-    nil : (s : Bool) (c : ℕ) → 0 < c → cond s (wholeUp 0 c) (wholeDown 0 c) ≡ 0
-    nil true c C = up-zero c C
-    nil false c C = down-zero c
+    exact : (s : Bool) (c d : ℕ) → 0 < d → cond s (g (c * d) d) (h (c * d) d) ≡ c
+    exact true = ge
+    exact false = he
 
-    keeps : (s : Bool) → floor f (inf s) ≡ inf s
-    keeps s = unfold floor in refl
+pub floor-way : Way floorWay
+floor-way = signed-way wholeUp wholeDown up-mono down-mono up-exact down-exact
 
-    is : (s : Bool) (m : ℕ) (e : ℤ) → floor f (fin s m e) ≡ round f s (cond s (wholeUp (m * up e) (down e)) (wholeDown (m * up e) (down e))) 1
-    is s m e = unfold floor in refl
+pub ceil-way : Way ceilWay
+ceil-way = signed-way wholeDown wholeUp down-mono up-mono down-exact up-exact
 
-pub ceil-le : (f : Format) (x y : Float) → T (le x y) → T (le (ceil f x) (ceil f y))
-ceil-le f = whole-le (λ (s : Bool) (a c : ℕ). cond s (wholeDown a c) (wholeUp a c)) mono nil f (ceil f) keeps is
-  where
-    mono : (s : Bool) → Mono (λ (a c : ℕ). cond s (wholeDown a c) (wholeUp a c))
-    mono true = down-mono
-    mono false = up-mono
+pub near-way : Way nearWay
+near-way = record { mono = λ s. near-mono; exact = λ s. near-exact }
 
-    nil : (s : Bool) (c : ℕ) → 0 < c → cond s (wholeDown 0 c) (wholeUp 0 c) ≡ 0
-    nil true c C = down-zero c
-    nil false c C = up-zero c C
+module _ (f : Format) where
+  pub floor-goes : Goes f floorWay (floor f)
+  unfolding floor
+  floor-goes = record { stays = refl; keeps = λ s. refl; is = λ s m e. refl }
 
-    keeps : (s : Bool) → ceil f (inf s) ≡ inf s
-    keeps s = unfold ceil in refl
+  pub ceil-goes : Goes f ceilWay (ceil f)
+  unfolding ceil
+  ceil-goes = record { stays = refl; keeps = λ s. refl; is = λ s m e. refl }
 
-    is : (s : Bool) (m : ℕ) (e : ℤ) → ceil f (fin s m e) ≡ round f s (cond s (wholeDown (m * up e) (down e)) (wholeUp (m * up e) (down e))) 1
-    is s m e = unfold ceil in refl
+  pub near-goes : Goes f nearWay (roundAway f)
+  unfolding roundAway
+  near-goes = record { stays = refl; keeps = λ s. refl; is = λ s m e. refl }
 
-pub round-away-le : (f : Format) (x y : Float) → T (le x y) → T (le (roundAway f x) (roundAway f y))
-round-away-le f = whole-le (λ (s : Bool). wholeNear) (λ (s : Bool). near-mono) (λ (s : Bool). near-zero) f (roundAway f) keeps is
-  where
-    keeps : (s : Bool) → roundAway f (inf s) ≡ inf s
-    keeps s = unfold roundAway in refl
+  pub floor-le : (x y : Float) → T (le x y) → T (le (floor f x) (floor f y))
+  floor-le = whole-le f floorWay (floor f) floor-way floor-goes
 
-    is : (s : Bool) (m : ℕ) (e : ℤ) → roundAway f (fin s m e) ≡ round f s (wholeNear (m * up e) (down e)) 1
-    is s m e = unfold roundAway in refl
+  pub ceil-le : (x y : Float) → T (le x y) → T (le (ceil f x) (ceil f y))
+  ceil-le = whole-le f ceilWay (ceil f) ceil-way ceil-goes
+
+  pub round-away-le : (x y : Float) → T (le x y) → T (le (roundAway f x) (roundAway f y))
+  round-away-le = whole-le f nearWay (roundAway f) near-way near-goes

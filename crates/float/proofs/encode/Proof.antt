@@ -1,3 +1,4 @@
+-- `float::encode` meets its contract. Assumes nothing.
 use Rattle.float.proofs.Ways.{ways}
 use borrow.Author.Needs.{needs}
 use Rattle.float.proofs.encode.Statement.{statement}

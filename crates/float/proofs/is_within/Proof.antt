@@ -1,3 +1,4 @@
+-- `float::is_within` meets its contract. Assumes nothing.
 use Rattle.float.proofs.Ways.{ways}
 use borrow.Author.Needs.{needs}
 use Rattle.float.proofs.is_within.Statement.{statement}

@@ -1,3 +1,4 @@
+-- `float::split` meets its contract. Assumes nothing.
 use Rattle.float.proofs.Ways.{ways}
 use borrow.Author.Needs.{needs}
 use Rattle.float.proofs.split.Statement.{statement}

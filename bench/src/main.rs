@@ -1,0 +1,57 @@
+//! Times the library's functions, called through its C interface, against those of Rust's std.
+
+use std::hint::black_box;
+use std::time::Instant;
+
+extern "C" {
+    fn jengafir_mul_add(a: f32, b: f32, c: f32) -> f32;
+    fn jengafir_hypot(x: f32, y: f32) -> f32;
+}
+
+const INPUTS: usize = 1 << 16;
+const ROUNDS: usize = 40;
+
+/// A weight from -1 to 1 and two coordinates from -4096 to 4096, as those of drawings.
+type Input = [f32; 3];
+
+fn inputs() -> Vec<Input> {
+    let mut state: u64 = 0x2545f4914f6cdd1d;
+    let mut unit = || {
+        state ^= state << 13;
+        state ^= state >> 7;
+        state ^= state << 17;
+        (state >> 40) as f32 / (1 << 23) as f32 - 1.0
+    };
+    (0..INPUTS).map(|_| [unit(), unit() * 4096.0, unit() * 4096.0]).collect()
+}
+
+/// Nanoseconds for a call of f, over all inputs. Each result is used, so no call is left out.
+fn time(inputs: &[Input], f: impl Fn(&Input) -> f32) -> f64 {
+    let start = Instant::now();
+    let mut sum = 0u32;
+    for input in black_box(inputs) {
+        sum = sum.wrapping_add(f(input).to_bits());
+    }
+    black_box(sum);
+    start.elapsed().as_nanos() as f64 / inputs.len() as f64
+}
+
+fn main() {
+    let inputs = inputs();
+    let mut best = [f64::INFINITY; 4];
+    for _ in 0..ROUNDS {
+        let times = [
+            time(&inputs, |&[a, b, c]| unsafe { jengafir_mul_add(a, b, c) }),
+            time(&inputs, |&[a, b, c]| a.mul_add(b, c)),
+            time(&inputs, |&[_, x, y]| unsafe { jengafir_hypot(x, y) }),
+            time(&inputs, |&[_, x, y]| x.hypot(y)),
+        ];
+        for (best, time) in best.iter_mut().zip(times) {
+            *best = best.min(time);
+        }
+    }
+    println!("ns a call    ours     std   ratio");
+    for (name, [ours, theirs]) in [("mul_add", [best[0], best[1]]), ("hypot", [best[2], best[3]])] {
+        println!("{name:9} {ours:7.2} {theirs:7.2} {:7.2}", ours / theirs);
+    }
+}

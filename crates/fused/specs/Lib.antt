@@ -1,0 +1,2 @@
+-- What the inner contracts of `fused` say.
+pub mod Align

@@ -1,0 +1,3 @@
+-- What the proofs of `remainder` cite.
+pub mod Turn
+pub mod Ways

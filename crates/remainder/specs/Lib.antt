@@ -1,0 +1,1 @@
+-- The contracts of `remainder` cite the definitions of `ieee`.

@@ -1,0 +1,2 @@
+-- What the proofs of `whole` cite.
+pub mod Ways

@@ -1,0 +1,1 @@
+-- The contracts of `whole` cite the definitions of `ieee`.

@@ -1,0 +1,223 @@
+//! Compares the float functions: Rust's own, and an exact root in whole numbers, against ours.
+
+use crate::random::{Random, EDGES};
+use crate::report::Report;
+
+extern "C" {
+    fn jengafir_mul_add(a: f32, b: f32, c: f32) -> f32;
+    fn jengafir_hypot(x: f32, y: f32) -> f32;
+    fn jengafir_floor(x: f32) -> f32;
+    fn jengafir_ceil(x: f32) -> f32;
+    fn jengafir_round(x: f32) -> f32;
+    fn jengafir_abs(x: f32) -> f32;
+    fn jengafir_rem_euclid_360(x: f32) -> f32;
+}
+
+pub fn compare(random: &mut Random, count: usize, report: &mut Report) {
+    compare_edges(report);
+    for _ in 0..count {
+        mul_add(report, triple(random));
+        hypot(report, pair(random));
+        let x = around_half(random);
+        floor(report, x);
+        ceil(report, x);
+        round(report, x);
+        abs(report, random.float());
+        rem_euclid_360(report, around_turn(random));
+    }
+}
+
+/// Every call whose operands are all edges.
+fn compare_edges(report: &mut Report) {
+    let edges = EDGES.map(f32::from_bits);
+    for a in edges {
+        floor(report, a);
+        ceil(report, a);
+        round(report, a);
+        abs(report, a);
+        rem_euclid_360(report, a);
+        for b in edges {
+            hypot(report, [a, b]);
+            for c in edges {
+                mul_add(report, [a, b, c]);
+            }
+        }
+    }
+}
+
+/// Built by oracle/run for any x86-64, f32::mul_add is a call of fmaf in C's maths library. That is
+/// code that shares nothing with ours, and so a good judge.
+fn mul_add(report: &mut Report, [a, b, c]: [f32; 3]) {
+    let ours = unsafe { jengafir_mul_add(a, b, c) };
+    report.compare("mul_add", &[a, b, c], ours, a.mul_add(b, c));
+}
+
+fn hypot(report: &mut Report, [x, y]: [f32; 2]) {
+    let ours = unsafe { jengafir_hypot(x, y) };
+    report.compare("hypot", &[x, y], ours, exact_hypot(x, y));
+}
+
+fn floor(report: &mut Report, x: f32) {
+    report.compare("floor", &[x], unsafe { jengafir_floor(x) }, x.floor());
+}
+
+fn ceil(report: &mut Report, x: f32) {
+    report.compare("ceil", &[x], unsafe { jengafir_ceil(x) }, x.ceil());
+}
+
+fn round(report: &mut Report, x: f32) {
+    report.compare("round", &[x], unsafe { jengafir_round(x) }, x.round());
+}
+
+fn abs(report: &mut Report, x: f32) {
+    report.compare("abs", &[x], unsafe { jengafir_abs(x) }, x.abs());
+}
+
+fn rem_euclid_360(report: &mut Report, x: f32) {
+    let ours = unsafe { jengafir_rem_euclid_360(x) };
+    report.compare("rem_euclid_360", &[x], ours, x.rem_euclid(360.0));
+}
+
+/// The operands of a sum: any floats, or some whose sum is hard to round.
+fn triple(random: &mut Random) -> [f32; 3] {
+    match random.bits(3) {
+        0 | 1 => near_middle(random),
+        2 => near_cancellation(random),
+        3 => near_subnormal(random),
+        4 => [random.with_exponent(-8, 8), random.with_exponent(-8, 8), random.with_exponent(-20, 20)],
+        _ => [random.float(), random.float(), random.float()],
+    }
+}
+
+/// A product that lies midway between two neighbours of the addend, or a hair beside that.
+fn near_middle(random: &mut Random) -> [f32; 3] {
+    let a = random.odd(24);
+    let hair = random.between(0, 8) as u64 * 2 + 1;
+    let hair = if random.bits(1) == 0 { hair } else { hair.wrapping_neg() };
+    let b = hair.wrapping_mul(inverse(a)) % (1 << 24);
+    let middle = (a * b).wrapping_sub(hair);
+    let unit = 2u64 << middle.trailing_zeros().min(60);
+    let scale = 2f32.powi(random.between(-100, 20) as i32);
+    let c = random.odd(24) as f32 * unit as f32 * scale;
+    [random.sign() * a as f32, b as f32 * scale, random.sign() * c]
+}
+
+/// The number whose product with an odd a is 1, modulo 2^64, by Newton's steps.
+fn inverse(a: u64) -> u64 {
+    let mut b = a;
+    for _ in 0..5 {
+        b = b.wrapping_mul(2u64.wrapping_sub(a.wrapping_mul(b)));
+    }
+    b
+}
+
+/// An addend that takes away the product, or all but its last places.
+fn near_cancellation(random: &mut Random) -> [f32; 3] {
+    let a = random.float();
+    let b = random.float();
+    [a, b, random.nudged(-(a * b))]
+}
+
+/// A product and an addend of a size around the least normal number.
+fn near_subnormal(random: &mut Random) -> [f32; 3] {
+    let exponent = random.between(-80, -60);
+    let a = random.with_exponent(exponent, exponent);
+    let b = random.with_exponent(-152 - exponent, -124 - exponent);
+    let digits = random.between(1, 25) as u32;
+    [a, b, random.sign() * f32::from_bits(random.bits(digits) as u32)]
+}
+
+/// Two legs: any floats, or a long one and one 10 to 15 binades shorter, or whole numbers.
+fn pair(random: &mut Random) -> [f32; 2] {
+    match random.bits(3) {
+        0 | 1 => {
+            let exponent = random.between(-100, 120);
+            let shorter = exponent - random.between(10, 15);
+            [random.with_exponent(exponent, exponent), random.with_exponent(shorter, shorter)]
+        }
+        2 | 3 => triangle(random),
+        4 => [random.with_exponent(-8, 12), random.with_exponent(-8, 12)],
+        _ => [random.float(), random.float()],
+    }
+}
+
+/// The legs of a right triangle whose sides are whole numbers. Where the longest has 25 binary
+/// digits, it lies midway between two floats.
+fn triangle(random: &mut Random) -> [f32; 2] {
+    let k = random.between(0, 63) as u64 * 2 + 1;
+    let m = isqrt(((1 << 24 | random.bits(24)) / k) as u128) as u64;
+    let n = random.bits(32) % m;
+    let scale = 2f32.powi(random.between(-40, 40) as i32);
+    [random.sign() * (k * (m * m - n * n)) as f32 * scale, (2 * k * m * n) as f32 * scale]
+}
+
+/// Any float, or one a few places from half a whole number.
+fn around_half(random: &mut Random) -> f32 {
+    if random.bits(1) == 0 {
+        return random.float();
+    }
+    let digits = random.between(1, 25) as u32;
+    let half = random.odd(digits) as f32 * 0.5;
+    random.sign() * random.nudged(half)
+}
+
+/// Any float, or one a few places from a multiple of 360.
+fn around_turn(random: &mut Random) -> f32 {
+    if random.bits(1) == 0 {
+        return random.float();
+    }
+    let digits = random.between(1, 24) as u32;
+    let scale = 2f64.powi(random.between(0, 95) as i32);
+    let turn = (random.bits(digits) as f64 * 360.0 * scale) as f32;
+    random.sign() * random.nudged(turn)
+}
+
+/// The float nearest to the root of x * x + y * y, ties to even, decided by whole squares.
+fn exact_hypot(x: f32, y: f32) -> f32 {
+    if x.is_infinite() || y.is_infinite() {
+        return f32::INFINITY;
+    }
+    if x.is_nan() || y.is_nan() {
+        return f32::NAN;
+    }
+    let (long, short) = if x.abs() < y.abs() { (y.abs(), x.abs()) } else { (x.abs(), y.abs()) };
+    let (p, j) = digits_of(long);
+    let (q, k) = digits_of(short);
+    // A leg that is 20 binades shorter moves the root by far less than half a place.
+    if j - k > 20 {
+        return long;
+    }
+    root((p * p << (2 * (j - k))) + q * q, k)
+}
+
+/// The whole number q < 2^24 and the exponent k for which x is q * 2^k, in units of 2^-149.
+fn digits_of(x: f32) -> (u128, u32) {
+    let exponent = x.to_bits() >> 23;
+    let fraction = (x.to_bits() & 0x7fffff) as u128;
+    if exponent == 0 { (fraction, 0) } else { (fraction | 1 << 23, exponent - 1) }
+}
+
+/// The float nearest to the square root of a whole number, in units of 2^(k - 149).
+fn root(square: u128, k: u32) -> f32 {
+    let below = isqrt(square);
+    let dropped = (128 - below.leading_zeros()).saturating_sub(24);
+    let digits = below >> dropped;
+    let twice_middle = (2 * digits + 1) << dropped;
+    let middle = twice_middle * twice_middle;
+    let up = 4 * square > middle || 4 * square == middle && digits % 2 == 1;
+    // The digits of a normal number have their top digit, which adds one to the exponent's field.
+    let pattern = ((k + dropped) << 23) + digits as u32 + up as u32;
+    f32::from_bits(pattern.min(f32::INFINITY.to_bits()))
+}
+
+/// The largest whole number whose square is not above n, for n below 2^100.
+fn isqrt(n: u128) -> u128 {
+    let mut r = (n as f64).sqrt() as u128;
+    while r * r > n {
+        r -= 1;
+    }
+    while (r + 1) * (r + 1) <= n {
+        r += 1;
+    }
+    r
+}

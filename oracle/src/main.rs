@@ -1,0 +1,37 @@
+//! Compares the library with Rust's own functions on seeded random and edge inputs.
+
+mod float;
+mod random;
+mod report;
+
+use random::Random;
+use report::Report;
+
+/// Compares one part of the library on about this many inputs for each function.
+type Part = fn(&mut Random, usize, &mut Report);
+
+const PARTS: &[Part] = &[float::compare];
+
+const SEED: u64 = 1;
+const COUNT: usize = 1_000_000;
+
+fn argument<T: std::str::FromStr>(place: usize, otherwise: T) -> T {
+    let Some(word) = std::env::args().nth(place) else { return otherwise };
+    word.parse().unwrap_or_else(|_| {
+        eprintln!("oracle: '{word}' is not a number; the arguments are [seed] [count]");
+        std::process::exit(2);
+    })
+}
+
+fn main() {
+    let seed = argument(1, SEED);
+    let count = argument(2, COUNT);
+    let mut report = Report::new();
+    for part in PARTS {
+        part(&mut Random::new(seed), count, &mut report);
+    }
+    println!("oracle: {} comparisons, {} differences, seed {seed}", report.comparisons, report.differences);
+    if report.differences > 0 {
+        std::process::exit(1);
+    }
+}
