@@ -6,7 +6,7 @@ use Prim.Native.Nat.{ℕ, suc, _+_, _-_, _*_, _^_, _≤_, _<_, zero-le}
 use native.Mathlib.Nat.{le-trans, le-of-eq, lt-of-lt-of-le, lt-of-le-of-lt, eq-zero-or-pos, add-mul, suc-mul, mul-assoc, zero-mul, mul-le-mul-right, mul-lt-mul-of-pos-right, le-div-iff-mul-le, eq-or-lt-of-le}
 use native.Mathlib.Omega.{arith}
 use mathlib.Core.Bool.{Bool, true, false, not}
-use lib.Dec.{T, ltb, ltb→lt, nltb→le, lit≤}
+use lib.Dec.{T, ltb, ltb→lt, nltb→le}
 use lib.Pow.{pow-add, pow-pos, pow-mono}
 use lib.Ieee.{Float, Format, binary32, binary64, low, size, units, round}
 use lib.Ieee.Exact.{HasValue, units-val}
@@ -16,7 +16,7 @@ use lib.Ieee.Scale.{overflow}
 use Rattle.ieee.proofs.Digits.{pow-lt-back}
 use Rattle.ieee.proofs.Closest.{closest-ge, closest-near, closest-down, closest-up}
 use Rattle.ieee.proofs.Value.{value-once}
-use Rattle.ieee.proofs.Units.{units-inf, units-same}
+use Rattle.ieee.proofs.Units.{units-inf, units-carry}
 use Rattle.ieee.proofs.Round.{round-units}
 use Rattle.fused.proofs.Dyadic.{size-of, round-dyadic}
 
@@ -93,12 +93,8 @@ module _ (s : Bool) (N e m low : ℕ) (m-lo : 2 ^ 23 ≤ m) (m-hi : m < 2 ^ 24) 
         let mW : m * W ≡ 2 ^ 23 * W = ap (λ (x : ℕ). x * W) (sym p) in
         at (2 ^ 24) (28 + e) (e - 897) (omega (arith, E)) (omega (arith, Q-is, W-is, H-is, below, v-pos, mW, low-0)) (omega (arith, W-is, H-is, k, mW))
         (closest-up N H (2 ^ 24 - 1) (omega (arith, Q-is, W-is, H-is, below, v-pos, mW, low-0)) (omega (arith, W-is, H-is, k, mW)))
-        ∙ units-same binary32 s (2 ^ 24) (e - 897) (2 ^ 23) (e - 896) (lit≤ tt) (lit≤ tt)
-        (mul-assoc (2 ^ 23) 2 (2 ^ (e - 897)) ∙ ap (λ (x : ℕ). 2 ^ 23 * x) (sym (pow-add 2 1 (e - 897)) ∙ ap (λ (x : ℕ). 2 ^ x) step))
+        ∙ units-carry binary32 s (e - 897) (e - 896) (omega (arith, E))
         ∙ ap (λ (x : ℕ). units binary32 s x (e - 896)) p
-      where
-        step : 1 + (e - 897) ≡ e - 896
-        step = omega (arith, E)
 
     pub double-down : round binary32 s N (2 ^ 1074) ≡ units binary32 s m (e - 896)
     double-down = elim (eq-zero-or-pos low) [

@@ -1,37 +1,20 @@
 -- The fast way of `mul_add`: the pattern of the binary64 sum, cut to binary32's digits. Assumes nothing.
-use mathlib.Core.Path.{_≡_, refl, sym, ap, _∙_, subst}
+use mathlib.Core.Path.{_≡_, sym, ap, _∙_, subst}
 use Prim.Native.Nat.{ℕ, suc, _+_, _-_, _*_, _/_, _%_, _^_, _≤_, _<_}
 use native.Mathlib.Omega.{arith}
-use mathlib.Core.Bool.{Bool, true, false, not, cond}
-use lib.Dec.{T, leb, ltb, eqb, eqb→eq, ltb→lt, nltb→le, not-T}
-use lib.Ieee.{Float, nan, inf, binary32, binary64, odd, units, round, add, mul, fits, ofFields, ofBits, toBits}
-use lib.Ieee.Exact.{HasValue, odd-sign}
+use mathlib.Core.Bool.{Bool, true, false, not}
+use lib.Dec.{T, leb, ltb, ltb→lt, nltb→le}
+use lib.Ieee.{Float, binary32, binary64, units, round, add, mul, fits, ofBits, toBits}
+use lib.Ieee.Exact.{HasValue}
 use lib.Ieee.Fits.{add-fits}
-use lib.Ieee.Bits.{cond-no, ofBits-toBits}
+use lib.Ieee.Bits.{ofBits-toBits}
 use Rattle.ieee.specs.Fused.{fma}
 use Rattle.ieee.specs.Pattern.{withSign, infinity}
 use Rattle.ieee.proofs.Value.{value-finite}
 use Rattle.ieee.proofs.Pattern.{write}
+use Rattle.ieee.proofs.Wide.{value-64}
 use Rattle.fused.proofs.Double.{double-up, double-down, sign-is, below-is, above-is}
 use Rattle.fused.proofs.Wide.{Both, both}
-
--- ---- what a pattern of binary64 stands for, in the normal range of binary32
-pattern-64 : (b : ℕ) → ofBits binary64 b ≡ ofFields binary64 (leb (2 ^ 63) b) (b % 2 ^ 63 / 2 ^ 52) (b % 2 ^ 52)
-unfolding ofBits
-pattern-64 b = refl
-
-fields-64 : (s : Bool) (x t : ℕ) → (suc x ≡ 2047 → ⊥) → ofFields binary64 s (suc x) t ≡ odd 53 s (2 ^ 52 + t) x 1074
-unfolding ofFields
-fields-64 s x t n = cond-no (eqb (suc x) 2047) (cond (eqb t 0) (inf s) nan) (odd 53 s (2 ^ 52 + t) x 1074) (not-T (eqb (suc x) 2047) (λ u. n (eqb→eq (suc x) 2047 u)))
-
-value-64 : (b : ℕ) → 898 ≤ b % 2 ^ 63 / 2 ^ 52 → b % 2 ^ 63 / 2 ^ 52 ≤ 1150 → HasValue (ofBits binary64 b) (leb (2 ^ 63) b) ((2 ^ 52 + b % 2 ^ 52) * 2 ^ (b % 2 ^ 63 / 2 ^ 52 - 1)) (2 ^ 1074)
-value-64 b lo hi =
-    let f = b % 2 ^ 63 / 2 ^ 52 in
-    let s = leb (2 ^ 63) b in
-    let again : f ≡ suc (f - 1) = omega arith in
-    subst (λ (y : Float). HasValue y s ((2 ^ 52 + b % 2 ^ 52) * 2 ^ (f - 1)) (2 ^ 1074))
-    (sym (pattern-64 b ∙ ap (λ (y : ℕ). ofFields binary64 s y (b % 2 ^ 52)) again ∙ fields-64 s (f - 1) (b % 2 ^ 52) (λ e. omega arith)))
-    (odd-sign 53 s (2 ^ 52 + b % 2 ^ 52) (f - 1) 1074)
 
 -- ---- the sum with the pattern t
 module _ (x y z : Float) (F : fits binary32 x ≡ true) (G : fits binary32 y ≡ true) (H : fits binary32 z ≡ true) where
@@ -57,7 +40,7 @@ module _ (x y z : Float) (F : fits binary32 x ≡ true) (G : fits binary32 y ≡
     value : HasValue w s (Q * 2 ^ (f - 1)) (2 ^ 1074)
     value =
         subst (λ (n : ℕ). HasValue w s (n * 2 ^ (f - 1)) (2 ^ 1074)) digits
-        (subst (λ (v : Float). HasValue v s ((2 ^ 52 + t % 2 ^ 52) * 2 ^ (f - 1)) (2 ^ 1074)) (ofBits-toBits binary64 w (add-fits binary64 (mul binary64 x y) z)) (value-64 t lo hi))
+        (subst (λ (v : Float). HasValue v s ((2 ^ 52 + t % 2 ^ 52) * 2 ^ (f - 1)) (2 ^ 1074)) (ofBits-toBits binary64 w (add-fits binary64 (mul binary64 x y) z)) (value-64 t (omega arith) (omega arith)))
       where
         digits : 2 ^ 52 + t % 2 ^ 52 ≡ Q
         digits = omega arith

@@ -1,21 +1,16 @@
 -- `fma` as a sum of whole numbers of units: of 2 ^ -298, in which a product of two values of binary32 is whole, and of 2 ^ -512. Assumes nothing.
 use mathlib.Core.Path.{_≡_, sym, ap, _∙_}
-use Prim.Native.Nat.{ℕ, _+_, _*_, _^_, _<_}
-use native.Mathlib.Nat.{le-of-lt, lt-of-le-of-lt, mul-assoc, mul-mul-mul-comm, mul-le-mul-left, mul-lt-mul-of-pos-right}
+use Prim.Native.Nat.{ℕ, _+_, _*_, _^_}
+use native.Mathlib.Nat.{mul-assoc}
 use mathlib.Core.Bool.{Bool}
 use lib.Pow.{pow-add, pow-pos}
 use lib.Ieee.{Float, Format, unlike, sum}
 use lib.Ieee.Exact.{HasValue}
 use Rattle.ieee.specs.Fused.{fma}
+use Rattle.ieee.proofs.Digits.{product-pow}
 use Rattle.ieee.proofs.Value.{rescale}
 use Rattle.ieee.proofs.Sum.{sum-same}
 use Rattle.ieee.proofs.Operations.{fma-at}
-
-pub product-lt : (a b : ℕ) → a < 2 ^ 24 → b < 2 ^ 24 → a * b < 2 ^ 48
-product-lt a b h k = lt-of-le-of-lt (mul-le-mul-left a (le-of-lt k)) (mul-lt-mul-of-pos-right h (pow-pos 24))
-
-pub product-is : (a i b j : ℕ) → a * 2 ^ i * (b * 2 ^ j) ≡ a * b * 2 ^ (i + j)
-product-is a i b j = mul-mul-mul-comm a (2 ^ i) b (2 ^ j) ∙ ap (λ (n : ℕ). a * b * n) (sym (pow-add 2 i j))
 
 -- the addend in the product's units
 pub addend : (z : Float) (u : Bool) (d : ℕ) → HasValue z u d (2 ^ 149) → HasValue z u (d * 2 ^ 149) (2 ^ 298)
@@ -30,7 +25,7 @@ module _ (f : Format) (x y z : Float) (s t u : Bool) where
   fma-parts a i b j d k v w r =
       fma-sum (a * 2 ^ i) (b * 2 ^ j) (d * 2 ^ k) v w r
       ∙ sum-same f (unlike s t) u (a * 2 ^ i * (b * 2 ^ j)) (d * 2 ^ k * 2 ^ 149) (2 ^ 298) (a * b * 2 ^ (i + j + 214)) (d * 2 ^ (k + 363)) (2 ^ 512) (pow-pos 298) (pow-pos 512)
-      (ap (λ (n : ℕ). n * 2 ^ 512) (product-is a i b j) ∙ shift (a * b) (i + j) 214 298)
+      (ap (λ (n : ℕ). n * 2 ^ 512) (product-pow a i b j) ∙ shift (a * b) (i + j) 214 298)
       (mul-assoc (d * 2 ^ k) (2 ^ 149) (2 ^ 512) ∙ shift d k 363 298)
     where
       -- n * 2 ^ (l + j), as l places of it and the rest

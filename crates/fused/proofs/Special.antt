@@ -1,6 +1,6 @@
--- Operands that are not finite: what `fma` is there, and that a finite sum and a finite product have none. Assumes nothing.
+-- What `fma` is where an operand is not finite. Assumes nothing.
 use mathlib.Core.Path.{_≡_, refl, sym, ap, _∙_, subst}
-use mathlib.Core.Bool.{Bool, true, false, Bool·beq, cond}
+use mathlib.Core.Bool.{Bool, true, false, cond}
 use lib.Dec.{T, eqb}
 use lib.Ieee.{Float, nan, inf, fin, Format, unlike, add, mul}
 use lib.Ieee.Scale.{finite}
@@ -34,32 +34,3 @@ fma-last f (fin s m e) (inf t) z h k l = absurd (subst T (sym k) tt)
 fma-last f (fin s m e) (fin t n d) nan h k l = refl
 fma-last f (fin s m e) (fin t n d) (inf u) h k l = refl
 fma-last f (fin s m e) (fin t n d) (fin u o g) h k l = absurd (subst T l tt)
-
--- ---- a finite result
-either : (b s : Bool) → finite (cond b nan (inf s)) ≡ true → ⊥
-either true s h = subst T (sym h) tt
-either false s h = subst T (sym h) tt
-
-pub add-finite : (f : Format) (x y : Float) → finite (add f x y) ≡ true → (finite x ≡ true) × (finite y ≡ true)
-unfolding add
-add-finite f nan y h = absurd (subst T (sym h) tt)
-add-finite f (inf s) nan h = absurd (subst T (sym h) tt)
-add-finite f (inf s) (inf t) h = absurd (go (Bool·beq s t) h)
-  where
-    go : (b : Bool) → finite (cond b (inf s) nan) ≡ true → ⊥
-    go true h = subst T (sym h) tt
-    go false h = subst T (sym h) tt
-add-finite f (inf s) (fin t n d) h = absurd (subst T (sym h) tt)
-add-finite f (fin s m e) nan h = absurd (subst T (sym h) tt)
-add-finite f (fin s m e) (inf t) h = absurd (subst T (sym h) tt)
-add-finite f (fin s m e) (fin t n d) h = (refl, refl)
-
-pub mul-finite : (f : Format) (x y : Float) → finite (mul f x y) ≡ true → (finite x ≡ true) × (finite y ≡ true)
-unfolding mul
-mul-finite f nan y h = absurd (subst T (sym h) tt)
-mul-finite f (inf s) nan h = absurd (subst T (sym h) tt)
-mul-finite f (inf s) (inf t) h = absurd (subst T (sym h) tt)
-mul-finite f (inf s) (fin t n d) h = absurd (either (eqb n 0) (unlike s t) h)
-mul-finite f (fin s m e) nan h = absurd (subst T (sym h) tt)
-mul-finite f (fin s m e) (inf t) h = absurd (either (eqb m 0) (unlike s t) h)
-mul-finite f (fin s m e) (fin t n d) h = (refl, refl)

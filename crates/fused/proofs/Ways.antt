@@ -4,13 +4,14 @@ use mathlib.Core.Path.{_≡_, refl, sym, ap, _∙_, subst}
 use Prim.Native.Nat.{ℕ, _+_, _*_, _%_, _^_, _≤_, _<_}
 use native.Mathlib.Nat.{lt-of-lt-of-le, zero-mul, mul-pos}
 use native.Mathlib.Omega.{arith}
-use mathlib.Core.Bool.{Bool, true, false, not, _&&_, Bool·beq}
-use lib.Dec.{T, lit≤}
+use mathlib.Core.Bool.{Bool, true, false, Bool·beq}
+use lib.Dec.{lit≤}
 use lib.Pow.{pow-pos}
-use lib.Ieee.{Float, binary32, binary64, unlike, round, sum, units, add, mul, ne, fits, isNan, ofBits}
-use lib.Ieee.Fits.{and-i, fits-widens}
+use lib.Ieee.{Float, binary32, unlike, round, sum, units, add, mul, ofBits}
 use Rattle.ieee.specs.Fused.{fma}
+use Rattle.ieee.proofs.Digits.{lt-pow-mul}
 use Rattle.ieee.proofs.Pattern.{is-number}
+use Rattle.ieee.proofs.Wide.{widens}
 use Rattle.float.specs.declared.Parts.{Parts}
 use Rattle.float.specs.Parts.{PartsOf}
 use Rattle.fused.specs.declared.Num.{Num}
@@ -20,7 +21,7 @@ use Rattle.fused.proofs.Packed.{moved, pack-high, pack-none, pack-low, 
 use Rattle.fused.proofs.Aligned.{nought, plus-fits, plus-small, less-small, plus-way, less-way, more-way, none-way}
 use Rattle.fused.proofs.Sums.{sum-like, sum-none, sum-swap, sum-left, sum-right}
 use Rattle.fused.proofs.Special.{fma-first, fma-second, fma-last}
-use Rattle.fused.proofs.Operands.{product-lt, fma-parts}
+use Rattle.fused.proofs.Operands.{fma-parts}
 use Rattle.fused.proofs.Narrow.{fast}
 
 -- ---- exact
@@ -97,13 +98,9 @@ module _ (a b c : Float) (x y z : Parts) (X : PartsOf a x) (Y : PartsOf b y) (Z 
 
 module _ (a b : Float) (x y : Parts) (X : PartsOf a x) (Y : PartsOf b y) where
   pub product-small : x .digits * y .digits < 2 ^ 48
-  product-small = product-lt (x .digits) (y .digits) (X .small) (Y .small)
+  product-small = lt-pow-mul 24 24 (x .digits) (y .digits) (X .small) (Y .small)
 
   pub product-fits : x .digits * y .digits < 2 ^ 64
   product-fits = lt-of-lt-of-le product-small (lit≤ tt)
-
--- ---- mul_add
-pub widens : (x : Float) → fits binary32 x ≡ true → ne x x ≡ false → T (fits binary64 x && not (isNan x))
-widens x f h = and-i (fits binary64 x) (not (isNan x)) (fits-widens x (subst T (sym f) tt)) (is-number x h)
 
 pub ruleset ways = (jam-far, jam-even, jam-odd, twice-fits, odd-fits, back-le, next-fits, even-fits, round-down, round-up, round-tie, zeros-fit, zeros-enough, zeros-few, zeros-room, lift-is, pack-high, pack-none, pack-low, high-small, high-full, high-places, low-small, low-full, plus-fits, plus-small, less-small, plus-way, less-way, more-way, none-way, zeros-like, zeros-unlike, first-zero, second-zero, operand, lifted-low, lifted-high, first-large, second-large, first-special, second-special, last-special, all-finite, product-small, is-number, widens, fast)

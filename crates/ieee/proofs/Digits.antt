@@ -1,7 +1,7 @@
 -- Whole numbers by their binary digits: powers of two and of four, the number of digits, and odd numbers. Assumes nothing.
 use mathlib.Core.Path.{_≡_, refl, sym, ap, _∙_, subst}
 use Prim.Native.Nat.{ℕ, zero, suc, _+_, _-_, _*_, _/_, _%_, _^_, _≤_, _<_}
-use native.Mathlib.Nat.{le-trans, le-of-eq, lt-of-lt-of-le, lt-of-le-of-lt, lt-of-not-le, not-le-of-lt, le-of-suc-le-suc, zero-lt-suc, mul-one, mul-comm, mul-assoc, mul-left-comm, mul-le-mul, mul-le-mul-left, mul-le-mul-right, mul-pos, mul-sub, add-sub-of-le, eq-of-mul-eq-mul-right, div-lt-iff-lt-mul, le-div-iff-mul-le, pow-suc, pow-succ'}
+use native.Mathlib.Nat.{le-trans, le-of-eq, le-of-lt, lt-of-lt-of-le, lt-of-le-of-lt, lt-of-not-le, not-le-of-lt, le-of-suc-le-suc, zero-lt-suc, mul-one, mul-comm, mul-assoc, mul-left-comm, mul-mul-mul-comm, mul-le-mul, mul-le-mul-left, mul-le-mul-right, mul-lt-mul-of-pos-right, mul-pos, mul-sub, add-sub-of-le, eq-of-mul-eq-mul-right, div-lt-iff-lt-mul, le-div-iff-mul-le, pow-suc, pow-succ'}
 use native.Mathlib.Omega.{arith}
 use lib.Pow.{pow-add, pow-pos, pow-mono, pow-lt, shl-lt}
 use lib.Ieee.{size}
@@ -23,12 +23,21 @@ pow-le-back i j h = le-of-suc-le-suc (lt-of-not-le (λ (g : suc j ≤ i). not-le
 pub pow-split : (q l : ℕ) → q ≤ l → 2 ^ q * 2 ^ (l - q) ≡ 2 ^ l
 pow-split q l h = sym (pow-add 2 q (l - q)) ∙ ap (λ (x : ℕ). 2 ^ x) (add-sub-of-le h)
 
+pub lt-pow-mul : (i j a b : ℕ) → a < 2 ^ i → b < 2 ^ j → a * b < 2 ^ (i + j)
+lt-pow-mul i j a b h k = lt-of-lt-of-le (lt-of-le-of-lt (mul-le-mul-left a (le-of-lt k)) (mul-lt-mul-of-pos-right h (pow-pos j))) (le-of-eq (sym (pow-add 2 i j)))
+
+pub product-pow : (a i b j : ℕ) → a * 2 ^ i * (b * 2 ^ j) ≡ a * b * 2 ^ (i + j)
+product-pow a i b j = mul-mul-mul-comm a (2 ^ i) b (2 ^ j) ∙ ap (λ (x : ℕ). a * b * x) (sym (pow-add 2 i j))
+
 pub four : (k : ℕ) → 4 ^ k ≡ 2 ^ k * 2 ^ k
 four zero = refl
 four (suc k) = rw (pow-suc 4 k, pow-suc 2 k) (omega (arith, four k))
 
 pub four-pos : (k : ℕ) → 0 < 4 ^ k
 four-pos k = subst (λ (x : ℕ). 0 < x) (sym (four k)) (mul-pos (pow-pos k) (pow-pos k))
+
+pub square-pow : (a i : ℕ) → a * 2 ^ i * (a * 2 ^ i) ≡ a * a * 4 ^ i
+square-pow a i = mul-mul-mul-comm a (2 ^ i) a (2 ^ i) ∙ ap (λ (x : ℕ). a * a * x) (sym (four i))
 
 pub sq-lt : {a b : ℕ} → a * a < b * b → a < b
 sq-lt h = lt-of-not-le (λ g. not-le-of-lt h (mul-le-mul g g))

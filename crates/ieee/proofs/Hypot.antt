@@ -2,7 +2,7 @@
 -- Assumes nothing.
 use mathlib.Core.Path.{_≡_, refl, sym, ap, _∙_, subst}
 use Prim.Native.Nat.{ℕ, zero, suc, _+_, _-_, _*_, _/_, _^_, _≤_, _<_}
-use native.Mathlib.Nat.{le-trans, le-of-eq, zero-lt-suc, add-comm, add-zero, add-mul, zero-mul, one-mul, mul-one, mul-comm, mul-assoc, mul-right-comm, mul-mul-mul-comm, mul-le-mul, mul-le-mul-right, mul-lt-mul-of-pos-right, mul-pos, mul-div-cancel, pow-succ'}
+use native.Mathlib.Nat.{le-refl, le-trans, le-of-eq, zero-lt-suc, sub-self, add-comm, add-zero, add-mul, zero-mul, one-mul, mul-one, mul-comm, mul-assoc, mul-right-comm, mul-mul-mul-comm, mul-le-mul, mul-le-mul-right, mul-lt-mul-of-pos-right, mul-pos, mul-div-cancel, pow-succ'}
 use native.Mathlib.Omega.{arith}
 use mathlib.Core.Bool.{Bool, false}
 use lib.IntN.{ℤ}
@@ -50,6 +50,12 @@ hypot-at f (fin r m e) (inf r') s t q a b Q v w = absurd w
 hypot-at f (fin r m e) (fin r' n d) s t q a b Q v w =
     (λ i. rootOf f (square (count-is f m e q a Q (v .1) i) + square (count-is f n d q b Q (w .1) i)))
     ∙ ap (rootOf f) (squares a b (2 ^ (low f - q)) ∙ ap (λ (x : ℕ). (a * a + b * b) * x) (sym (four (low f - q))))
+
+-- the grid of the format's own smallest values
+pub hypot-units : (f : Format) (x y : Float) (s t : Bool) (a b : ℕ) → HasValue x s a (2 ^ low f) → HasValue y t b (2 ^ low f) → hypotOf f x y ≡ rootOf f (a * a + b * b)
+hypot-units f x y s t a b v w =
+    hypot-at f x y s t (low f) a b (le-refl (low f)) v w
+    ∙ ap (rootOf f) (ap (λ (k : ℕ). (a * a + b * b) * 4 ^ k) (sub-self (low f)) ∙ mul-one (a * a + b * b))
 
 -- ---- the root of n * 4 ^ j for j ≥ prec - 1: it has all its digits, or n is 0
 all : (p z : ℕ) → p - 1 < z → p ≤ z

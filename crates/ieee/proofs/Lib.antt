@@ -21,4 +21,5 @@ pub mod Isqrt
 pub mod Root
 pub mod Hypot
 pub mod Pattern
+pub mod Wide
 mod Cases

@@ -1,15 +1,16 @@
--- The operations by the values of their operands: any fractions that these equal serve. Products and fused products do not turn on the order of their factors. Assumes nothing.
+-- The operations by the values of their operands: any fractions that these equal serve. Products and fused products do not turn on the order of their factors. A finite sum
+-- and a finite product have finite operands. Assumes nothing.
 use mathlib.Core.Path.{_≡_, refl, sym, ap, _∙_, subst}
 use Prim.Native.Nat.{ℕ, zero, suc, _+_, _*_, _/_, _%_, _<_}
 use native.Mathlib.Nat.{lt-irrefl, zero-lt-suc, zero-mul, add-zero, mul-comm, mul-assoc, mul-left-comm, mul-right-comm, mul-mul-mul-comm, mul-pos, mul-div-cancel, mul-mod-left}
-use mathlib.Core.Bool.{Bool, true, false, not, cond}
+use mathlib.Core.Bool.{Bool, true, false, not, Bool·beq, cond}
 use lib.IntN.{ℤ}
 use lib.Dec.{T, eqb, eqb→eq, not-T}
 use lib.Arith.{mod-mul}
 use lib.Ieee.{Float, nan, inf, fin, Format, up, down, unlike, round, neg, sum, add, sub, mul, div, rem}
 use lib.Ieee.Fits.{up-pos, down-pos}
 use lib.Ieee.Exact.{HasValue}
-use lib.Ieee.Scale.{round-same}
+use lib.Ieee.Scale.{round-same, finite}
 use lib.Ieee.Bits.{cond-no}
 use Rattle.ieee.specs.Fused.{fma}
 use Rattle.ieee.proofs.Value.{common, common'}
@@ -19,6 +20,10 @@ use Rattle.ieee.proofs.Sum.{sum-same}
 pub unlike-false : (s : Bool) → unlike s false ≡ s
 unlike-false true = refl
 unlike-false false = refl
+
+pub unlike-same : (s : Bool) → unlike s s ≡ false
+unlike-same true = refl
+unlike-same false = refl
 
 unlike-swap : (s t : Bool) → unlike s t ≡ unlike t s
 unlike-swap true true = refl
@@ -163,3 +168,32 @@ fma-swap f (fin s m e) (fin t n d) nan = refl
 fma-swap f (fin s m e) (fin t n d) (inf u) = refl
 fma-swap f (fin s m e) (fin t n d) (fin u k g) =
     λ i. sum f (unlike-swap s t i) (mul-comm (m * up e) (n * up d) i * down g) u (k * up g * mul-comm (down e) (down d) i) (mul-comm (down e) (down d) i * down g)
+
+-- ---- a finite result
+either : (b s : Bool) → finite (cond b nan (inf s)) ≡ true → ⊥
+either true s h = subst T (sym h) tt
+either false s h = subst T (sym h) tt
+
+pub add-finite : (f : Format) (x y : Float) → finite (add f x y) ≡ true → (finite x ≡ true) × (finite y ≡ true)
+unfolding add
+add-finite f nan y h = absurd (subst T (sym h) tt)
+add-finite f (inf s) nan h = absurd (subst T (sym h) tt)
+add-finite f (inf s) (inf t) h = absurd (go (Bool·beq s t) h)
+  where
+    go : (b : Bool) → finite (cond b (inf s) nan) ≡ true → ⊥
+    go true h = subst T (sym h) tt
+    go false h = subst T (sym h) tt
+add-finite f (inf s) (fin t n d) h = absurd (subst T (sym h) tt)
+add-finite f (fin s m e) nan h = absurd (subst T (sym h) tt)
+add-finite f (fin s m e) (inf t) h = absurd (subst T (sym h) tt)
+add-finite f (fin s m e) (fin t n d) h = (refl, refl)
+
+pub mul-finite : (f : Format) (x y : Float) → finite (mul f x y) ≡ true → (finite x ≡ true) × (finite y ≡ true)
+unfolding mul
+mul-finite f nan y h = absurd (subst T (sym h) tt)
+mul-finite f (inf s) nan h = absurd (subst T (sym h) tt)
+mul-finite f (inf s) (inf t) h = absurd (subst T (sym h) tt)
+mul-finite f (inf s) (fin t n d) h = absurd (either (eqb n 0) (unlike s t) h)
+mul-finite f (fin s m e) nan h = absurd (subst T (sym h) tt)
+mul-finite f (fin s m e) (inf t) h = absurd (either (eqb m 0) (unlike s t) h)
+mul-finite f (fin s m e) (fin t n d) h = (refl, refl)

@@ -3,7 +3,7 @@
 use mathlib.Core.Path.{_≡_, refl, sym, ap, _∙_, subst}
 use mathlib.Core.Logic.{_⊎_, inl, inr}
 use Prim.Native.Nat.{ℕ, zero, suc, _+_, _*_, _^_, _≤_, _<_}
-use native.Mathlib.Nat.{zero-lt-suc, zero-mul, suc-mul, mul-right-comm}
+use native.Mathlib.Nat.{lt-of-not-le, zero-lt-suc, zero-mul, suc-mul, mul-right-comm}
 use native.Mathlib.Omega.{arith}
 use mathlib.Core.Bool.{Bool, true, false, not, _||_, cond}
 use lib.IntN.{ℤ, pos}
@@ -11,10 +11,10 @@ use lib.Dec.{T, ltb}
 use lib.Ieee.{Float, nan, inf, fin, Format, binary32, binary64, prec, emax, low, up, down, size, odd, units, round, neg, lt, eq, le}
 use lib.Ieee.Fits.{round-is, down-pos}
 use lib.Ieee.Order as O
-use lib.Ieee.Scale.{round-same}
+use lib.Ieee.Scale.{round-same, finite}
 use Rattle.ieee.specs.Sign.{isNumber}
 use Rattle.ieee.proofs.Round.{neg-round}
-use Rattle.ieee.proofs.Signed.{Le, Le-refl, Le-trans, Le-mul, Le-div, Le-antisym, Le-flip, test→Le, Le→test, not-below}
+use Rattle.ieee.proofs.Signed.{Le, Le-refl, Le-trans, Le-mul, Le-div, Le-antisym, Le-flip, test→Le, Le→test, not-below, below-not}
 
 -- ---- finite values, by their fractions
 module _ (s : Bool) (m : ℕ) (e : ℤ) (t : Bool) (n : ℕ) (d : ℤ) where
@@ -154,6 +154,28 @@ le-total x y p q = go (lt x y) refl
     go true e = inl (lt→le x y (subst T (sym e) tt))
     go false e = inr (not-lt→le x y p q (subst (λ (b : Bool). T (not b)) (sym e) tt))
 
+pub le-not-lt : (x y : Float) → T (le x y) → T (lt y x) → ⊥
+unfolding lt
+le-not-lt nan y h k = absurd (le-number-l nan y h)
+le-not-lt (inf s) nan h k = absurd k
+le-not-lt (inf true) (inf true) h k = absurd k
+le-not-lt (inf true) (inf false) h k = absurd k
+le-not-lt (inf false) (inf true) h k = absurd (unfold le in h)
+le-not-lt (inf false) (inf false) h k = absurd k
+le-not-lt (inf true) (fin t n d) h k = absurd k
+le-not-lt (inf false) (fin t n d) h k = absurd (unfold le in h)
+le-not-lt (fin s m e) nan h k = absurd k
+le-not-lt (fin s m e) (inf true) h k = absurd (unfold le in h)
+le-not-lt (fin s m e) (inf false) h k = absurd k
+le-not-lt (fin s m e) (fin t n d) h k = below-not t (n * up d * down e) s (m * up e * down d) k (le→Le s m e t n d h)
+
+-- strictly between two others there are finite values alone
+pub between-finite : (x y z : Float) → T (lt x y) → T (lt y z) → finite y ≡ true
+between-finite x nan z h k = absurd (le-number-l nan z (lt→le nan z k))
+between-finite x (inf true) z h k = absurd (le-not-lt (inf true) x (least x (le-number-l x (inf true) (lt→le x (inf true) h))) h)
+between-finite x (inf false) z h k = absurd (le-not-lt z (inf false) (most z (le-number-r (inf false) z (lt→le (inf false) z k))) k)
+between-finite x (fin s m e) z h k = refl
+
 -- ---- a function that keeps the infinities and is monotone on finite values is monotone
 module _ (g : Float → Float) (keeps : (s : Bool) → g (inf s) ≡ inf s) (mono : (s : Bool) (m : ℕ) (e : ℤ) (t : Bool) (n : ℕ) (d : ℤ) → T (le (fin s m e) (fin t n d)) → T (le (g (fin s m e)) (g (fin t n d)))) where
   there : (s : Bool) (m : ℕ) (e : ℤ) → T (isNumber (g (fin s m e)))
@@ -263,3 +285,7 @@ round-le f true a b false c d B D h =
 round-le f false a b true c d B D h =
     subst (λ (w : Float). T (le w (round f true c d))) (sym (zero-round f a b B (none a d (c * b) D h)))
     (subst (λ (w : Float). T (le (fin false 0 (pos 0)) w)) (ap neg (sym (zero-round f c d D (none c b (a * d) B (omega arith)))) ∙ neg-round f c d) zeros)
+
+-- so a strict test of two rounded fractions is a strict test of the fractions
+pub round-lt : (f : Format) (a b c d : ℕ) → 0 < b → 0 < d → T (lt (round f false a b) (round f false c d)) → a * d < c * b
+round-lt f a b c d B D h = lt-of-not-le (λ (g : c * b ≤ a * d). le-not-lt (round f false c d) (round f false a b) (O.round-mono f c d a b D B g) h)

@@ -163,6 +163,12 @@ module _ (q k : ℕ) (q-le : q ≤ 2 ^ 24) (full : 0 < k → 2 ^ 23 ≤ q) where
   ]
 
 -- ---- a float by its own pattern
+finite-number : (x : Float) → finite x ≡ true → T (not (isNan x))
+unfolding isNan
+finite-number nan h = absurd (subst T (sym h) tt)
+finite-number (inf s) h = tt
+finite-number (fin s m e) h = tt
+
 module _ (x : Float) (held : T (fits binary32 x)) where
   abbrev rest : ℕ
   rest = toBits binary32 x % 2 ^ 31
@@ -184,6 +190,12 @@ module _ (x : Float) (held : T (fits binary32 x)) where
       nltb→le infinity rest
       (subst (λ (b : Bool). T (not b)) (sym (nanBits-is binary32 (toBits binary32 x)) ∙ nanBits-above binary32 (toBits binary32 x))
       (subst (λ (v : Float). T (not (isNan v))) (sym (ofBits-toBits binary32 x held)) t))
+
+  pub read-finite : finite x ≡ true → rest < infinity
+  read-finite h = elim (eq-or-lt-of-le (read-number (finite-number x h))) [
+    | inl e ↦ absurd (subst T (sym h ∙ ap finite (read-inf e)) tt)
+    | inr l ↦ l
+  ]
 
 -- ---- the sign bit cleared
 abs-odd : (d : ℕ) (s : Bool) (q k l : ℕ) → abs (odd d s q k l) ≡ odd d false q k l

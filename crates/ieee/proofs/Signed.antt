@@ -70,6 +70,12 @@ not-below false a true b h = omega arith
 not-below true a false b h = omega (arith, nltb→le 0 (a + b) h)
 not-below true a true b h = omega (arith, nltb→le b a h)
 
+pub below-not : (s : Bool) (a : ℕ) (t : Bool) (b : ℕ) → T (below s a t b) → Le t b s a → ⊥
+below-not false a false b h l = omega (arith, ltb→lt a b h)
+below-not false a true b h l = absurd h
+below-not true a false b h l = omega (arith, ltb→lt 0 (a + b) h)
+below-not true a true b h l = omega (arith, ltb→lt b a h)
+
 pub test→Le : (s : Bool) (a : ℕ) (t : Bool) (b : ℕ) → T (below s a t b || level s a t b) → Le s a t b
 test→Le false a false b h = go (ltb a b) (eqb a b) (ltb→lt a b) (eqb→eq a b) h
   where

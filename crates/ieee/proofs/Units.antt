@@ -1,14 +1,15 @@
 -- `units`, a float as a number of the format's smallest values: finite below the overflow and infinite from there on, held by the format, and the same for the same number.
 -- Assumes nothing.
 use mathlib.Core.Path.{_≡_, refl, sym, ap, _∙_, subst}
-use Prim.Native.Nat.{ℕ, suc, _+_, _*_, _^_, _≤_, _<_}
+use Prim.Native.Nat.{ℕ, suc, _+_, _-_, _*_, _^_, _≤_, _<_}
 use native.Mathlib.Nat.{le-refl, lt-of-le-of-lt}
+use native.Mathlib.Omega.{arith}
 use mathlib.Core.Bool.{Bool, true, false, not, cond}
 use lib.Dec.{T, ltb, ltb→lt, lt→ltb, nltb→le}
 use lib.Arith.{le→nltb}
-use lib.Pow.{pow-pos, pow-lt}
+use lib.Pow.{pow-add, pow-pos, pow-mono, pow-lt}
 use lib.Ieee.{Float, inf, Format, prec, emax, low, odd, units, fits}
-use lib.Ieee.Fits.{odd-fits, inf-fits}
+use lib.Ieee.Fits.{odd-fits, inf-fits, two, two-le-pos}
 use lib.Ieee.Exact.{HasValue, units-val}
 use lib.Ieee.Scale.{overflow}
 use lib.Ieee.Bits.{is-true, is-false}
@@ -44,3 +45,15 @@ units-same f s q k q' k' a a' e =
     (subst (λ (x : ℕ). HasValue (units f s q k) s x (2 ^ low f)) e (units-val f s q k l))
     (units-val f s q' k' (subst (λ (x : ℕ). x < overflow f) e l)))
     (λ g. units-inf f s q k g ∙ sym (units-inf f s q' k' (subst (λ (x : ℕ). overflow f ≤ x) e g)))
+
+-- one more than the largest number of `prec` digits is the next place's least
+pub units-carry : (f : Format) (s : Bool) (k j : ℕ) → k + 1 ≡ j → units f s (2 ^ prec f) k ≡ units f s (2 ^ (prec f - 1)) j
+units-carry f s k j e =
+    units-same f s (2 ^ prec f) k (2 ^ (prec f - 1)) j (le-refl (2 ^ prec f)) (pow-mono (less (prec f)))
+    (sym (pow-add 2 (prec f) k) ∙ ap (λ (x : ℕ). 2 ^ x) (places (prec f) (two-le-pos (prec f) (two f))) ∙ pow-add 2 (prec f - 1) j)
+  where
+    less : (p : ℕ) → p - 1 ≤ p
+    less p = omega arith
+
+    places : (p : ℕ) → 0 < p → p + k ≡ p - 1 + j
+    places p h = omega arith

@@ -1,4 +1,4 @@
 -- What the proofs of `root` cite.
-pub mod Halved
-pub mod Squares
+pub mod Midpoints
+pub mod Quick
 pub mod Ways

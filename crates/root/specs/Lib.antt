@@ -1,2 +1,1 @@
--- What the contracts of `root` say beyond the definitions of `ieee`.
-pub mod Steps
+-- The contracts of `root` cite the definitions of `ieee`.

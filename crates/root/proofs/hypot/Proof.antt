@@ -4,31 +4,87 @@ use borrow.Author.Needs.{needs}
 use Rattle.root.proofs.hypot.Statement.{statement}
 use Rattle.root.proofs.hypot.Tie as tie
 
-beside-nan-requires : tie.Need-beside-nan-requires
-beside-nan-requires c κs = search needs
+hypot-exact-requires : tie.Need-hypot-exact-requires
+hypot-exact-requires c κs = search needs
 
 returns : tie.Need-returns
-returns c = search (needs, ways)
+returns c = search needs
 
-beside-nan-requires-2 : tie.Need-beside-nan-requires-2
-beside-nan-requires-2 c κs = search needs
+float-to-float-a : tie.Need-float-to-float-a
+float-to-float-a c = search (needs, ways)
+
+float-to-float-b : tie.Need-float-to-float-b
+float-to-float-b c = search (needs, ways)
+
+hypot-exact-requires-2 : tie.Need-hypot-exact-requires-2
+hypot-exact-requires-2 c κs = search needs
 
 returns-2 : tie.Need-returns-2
-returns-2 c = search (needs, ways)
+returns-2 c = search needs
 
-of-numbers-requires : tie.Need-of-numbers-requires
-of-numbers-requires c κs = search (needs, ways)
+guess-requires : tie.Need-guess-requires
+guess-requires c κs = search (needs, ways)
+
+hypot-exact-requires-3 : tie.Need-hypot-exact-requires-3
+hypot-exact-requires-3 c κs = search needs
 
 returns-3 : tie.Need-returns-3
 returns-3 c = search needs
+
+candidate-requires : tie.Need-candidate-requires
+candidate-requires c κs = search (needs, ways)
+
+sub-s : tie.Need-sub-s
+sub-s c = search needs
+
+float-from-bits-s : tie.Need-float-from-bits-s
+float-from-bits-s c = search (needs, ways)
+
+add-t : tie.Need-add-t
+add-t c = search needs
+
+float-from-bits-t : tie.Need-float-from-bits-t
+float-from-bits-t c = search (needs, ways)
+
+sub-result : tie.Need-sub-result
+sub-result c = search needs
+
+cast-result : tie.Need-cast-result
+cast-result c = search needs
+
+float-from-bits-result : tie.Need-float-from-bits-result
+float-from-bits-result c = search (needs, ways)
+
+returns-4 : tie.Need-returns-4
+returns-4 c = search (needs, ways)
+
+hypot-exact-requires-4 : tie.Need-hypot-exact-requires-4
+hypot-exact-requires-4 c κs = search needs
+
+returns-5 : tie.Need-returns-5
+returns-5 c = search needs
 
 pub hypot-spec : {M : Type 1} → statement M
 hypot-spec =
     tie.close
     (tie.spec
-    beside-nan-requires
+    hypot-exact-requires
     returns
-    beside-nan-requires-2
+    float-to-float-a
+    float-to-float-b
+    hypot-exact-requires-2
     returns-2
-    of-numbers-requires
-    returns-3)
+    guess-requires
+    hypot-exact-requires-3
+    returns-3
+    candidate-requires
+    sub-s
+    float-from-bits-s
+    add-t
+    float-from-bits-t
+    sub-result
+    cast-result
+    float-from-bits-result
+    returns-4
+    hypot-exact-requires-4
+    returns-5)

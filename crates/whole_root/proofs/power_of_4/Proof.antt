@@ -1,8 +1,8 @@
--- `root::power_of_4` meets its contract. Assumes nothing.
-use Rattle.root.proofs.Ways.{ways}
+-- `whole_root::power_of_4` meets its contract. Assumes nothing.
+use Rattle.whole_root.proofs.Ways.{ways}
 use borrow.Author.Needs.{needs}
-use Rattle.root.proofs.power_of_4.Statement.{statement}
-use Rattle.root.proofs.power_of_4.Tie as tie
+use Rattle.whole_root.proofs.power_of_4.Statement.{statement}
+use Rattle.whole_root.proofs.power_of_4.Tie as tie
 
 mul-result : tie.Need-mul-result
 mul-result c = search needs

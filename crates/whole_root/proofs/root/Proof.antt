@@ -1,9 +1,9 @@
--- `root::root` meets its contract: whatever the guess is, the first loop brings s² down to t at most, and the second brings (s + 1)² above t. Assumes nothing.
+-- `whole_root::root` meets its contract: whatever the guess is, the first loop brings s² down to t at most, and the second brings (s + 1)² above t. Assumes nothing.
 use Prim.Native.Nat.{_≤_, _<_, _*_, _-_, _^_}
-use Rattle.root.proofs.Ways.{ways}
+use Rattle.whole_root.proofs.Ways.{ways}
 use borrow.Author.Needs.{needs}
-use Rattle.root.proofs.root.Statement.{statement}
-use Rattle.root.proofs.root.Tie as tie
+use Rattle.whole_root.proofs.root.Statement.{statement}
+use Rattle.whole_root.proofs.root.Tie as tie
 
 abbrev Inv-loop : tie.InvT-loop
 Inv-loop t s₀ s = s < 2 ^ 26

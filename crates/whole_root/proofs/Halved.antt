@@ -15,7 +15,7 @@ use Rattle.ieee.proofs.Digits.{four-pos}
 use Rattle.ieee.proofs.Tests.{compare-lt, compare-eq, compare-gt}
 use Rattle.ieee.proofs.Isqrt.{IsRoot, isqrt-law, isqrt-lt, isqrt-ge, root-unique, cut-low, cut-high}
 use Rattle.ieee.proofs.Root.{dropped-is}
-use Rattle.root.specs.Steps.{halved}
+use Rattle.whole_root.specs.Steps.{halved}
 
 -- ---- half, to the nearest
 pub halved-all : (s rest : ℕ) → rest ≡ 0 → (s + s / 2 % 2) / 2 ≡ halved s rest

@@ -1,8 +1,8 @@
--- `root::of_numbers` meets its contract. Assumes nothing.
-use Rattle.root.proofs.Ways.{ways}
+-- `whole_root::of_numbers` meets its contract. Assumes nothing.
+use Rattle.whole_root.proofs.Ways.{ways}
 use borrow.Author.Needs.{needs}
-use Rattle.root.proofs.of_numbers.Statement.{statement}
-use Rattle.root.proofs.of_numbers.Tie as tie
+use Rattle.whole_root.proofs.of_numbers.Statement.{statement}
+use Rattle.whole_root.proofs.of_numbers.Tie as tie
 
 float-to-bits-p : tie.Need-float-to-bits-p
 float-to-bits-p c = search needs

@@ -1,8 +1,8 @@
--- `root::beside_nan` meets its contract. Assumes nothing.
-use Rattle.root.proofs.Ways.{ways}
+-- `whole_root::beside_nan` meets its contract. Assumes nothing.
+use Rattle.whole_root.proofs.Ways.{ways}
 use borrow.Author.Needs.{needs}
-use Rattle.root.proofs.beside_nan.Statement.{statement}
-use Rattle.root.proofs.beside_nan.Tie as tie
+use Rattle.whole_root.proofs.beside_nan.Statement.{statement}
+use Rattle.whole_root.proofs.beside_nan.Tie as tie
 
 returns : tie.Need-returns
 returns c = search (needs, ways)

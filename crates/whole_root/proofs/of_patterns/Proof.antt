@@ -1,8 +1,8 @@
--- `root::of_patterns` meets its contract. Assumes nothing.
-use Rattle.root.proofs.Ways.{ways}
+-- `whole_root::of_patterns` meets its contract. Assumes nothing.
+use Rattle.whole_root.proofs.Ways.{ways}
 use borrow.Author.Needs.{needs}
-use Rattle.root.proofs.of_patterns.Statement.{statement}
-use Rattle.root.proofs.of_patterns.Tie as tie
+use Rattle.whole_root.proofs.of_patterns.Statement.{statement}
+use Rattle.whole_root.proofs.of_patterns.Tie as tie
 
 drops-of-requires : tie.Need-drops-of-requires
 drops-of-requires c κs = search needs

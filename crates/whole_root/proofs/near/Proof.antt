@@ -1,8 +1,8 @@
--- `root::near` meets its contract. Assumes nothing.
-use Rattle.root.proofs.Ways.{ways}
+-- `whole_root::near` meets its contract. Assumes nothing.
+use Rattle.whole_root.proofs.Ways.{ways}
 use borrow.Author.Needs.{needs}
-use Rattle.root.proofs.near.Statement.{statement}
-use Rattle.root.proofs.near.Tie as tie
+use Rattle.whole_root.proofs.near.Statement.{statement}
+use Rattle.whole_root.proofs.near.Tie as tie
 
 sub-power-of-4 : tie.Need-sub-power-of-4
 sub-power-of-4 c = search needs

@@ -1,8 +1,8 @@
--- `root::rounded` meets its contract. Assumes nothing.
-use Rattle.root.proofs.Ways.{ways}
+-- `whole_root::rounded` meets its contract. Assumes nothing.
+use Rattle.whole_root.proofs.Ways.{ways}
 use borrow.Author.Needs.{needs}
-use Rattle.root.proofs.rounded.Statement.{statement}
-use Rattle.root.proofs.rounded.Tie as tie
+use Rattle.whole_root.proofs.rounded.Statement.{statement}
+use Rattle.whole_root.proofs.rounded.Tie as tie
 
 root-requires : tie.Need-root-requires
 root-requires c κs = search needs

@@ -2,17 +2,14 @@
 use mathlib.Core.Path.{_≡_, sym, ap, _∙_, subst}
 use mathlib.Core.Bool.{false}
 use Prim.Native.Nat.{ℕ, _+_, _-_, _*_, _/_, _%_, _^_, _≤_, _<_}
-use native.Mathlib.Nat.{le-of-lt, mul-comm, mul-assoc, mul-mul-mul-comm, mul-pos, mul-le-mul, mul-le-mul-right, mul-lt-mul-of-pos-right, zero-mul, div-add-mod', mod-lt, pow-le-pow-right}
+use native.Mathlib.Nat.{le-of-lt, mul-comm, mul-assoc, mul-pos, mul-le-mul, mul-le-mul-right, mul-lt-mul-of-pos-right, zero-mul, div-add-mod', mod-lt, pow-le-pow-right}
 use native.Mathlib.Omega.{arith}
 use lib.Pow.{pow-add}
 use lib.Ieee.{binary32, units}
 use Rattle.ieee.specs.Root.{isqrt, rootOf}
-use Rattle.ieee.proofs.Digits.{grow, four, four-pos}
-use Rattle.root.specs.Steps.{halved}
-use Rattle.root.proofs.Halved.{halved-even, rootOf-is, from-whole}
-
-sq : (a i : ℕ) → a * 2 ^ i * (a * 2 ^ i) ≡ a * a * 4 ^ i
-sq a i = mul-mul-mul-comm a (2 ^ i) a (2 ^ i) ∙ ap (λ (x : ℕ). a * a * x) (sym (four i))
+use Rattle.ieee.proofs.Digits.{grow, square-pow, four-pos}
+use Rattle.whole_root.specs.Steps.{halved}
+use Rattle.whole_root.proofs.Halved.{halved-even, rootOf-is, from-whole}
 
 none : (a c : ℕ) → a ≡ 0 → a * c ≡ 0
 none a c e = ap (λ (x : ℕ). x * c) e ∙ zero-mul c
@@ -32,7 +29,7 @@ module _ (a b i j g : ℕ) (gap : j + g ≡ i) where
         let S = 4 * (b * b) in
         let x : S / 4 ^ g * 4 ^ i ≡ S / 4 ^ g * 4 ^ g * 4 ^ j = ap (λ (z : ℕ). S / 4 ^ g * z) scale ∙ sym (mul-assoc (S / 4 ^ g) (4 ^ g) (4 ^ j)) in
         let y : (S / 4 ^ g * 4 ^ g + S % 4 ^ g) * 4 ^ j ≡ S * 4 ^ j = ap (λ (z : ℕ). z * 4 ^ j) (div-add-mod' S (4 ^ g)) in
-        let z : 4 * sum ≡ (4 * (a * a) + S / 4 ^ g) * 4 ^ i + S % 4 ^ g * 4 ^ j = omega (arith, sq a i, sq b j) in
+        let z : 4 * sum ≡ (4 * (a * a) + S / 4 ^ g) * 4 ^ i + S % 4 ^ g * 4 ^ j = omega (arith, square-pow a i, square-pow b j) in
         z ∙ (λ k. sym whole k * 4 ^ i + sym left k * 4 ^ j)
 
     rest-lt : rest * 4 ^ j < 4 ^ i
@@ -71,9 +68,9 @@ far a b i j g e hg ha ua hb =
     let w : a * 4 ^ g * 4 ^ j ≡ a * D = mul-assoc a (4 ^ g) (4 ^ j) ∙ ap (λ (x : ℕ). a * x) (sym (scale a b i j g e)) in
     rootOf-is n i (2 * a) (4 * n - 2 * a * (2 * a) * D)
     (record {
-      low = omega (arith, sq a i);
-      high = omega (arith, sq a i, sq b j);
-      all = λ (p : 4 * n - 2 * a * (2 * a) * D ≡ 0). omega (arith, sq a i);
+      low = omega (arith, square-pow a i);
+      high = omega (arith, square-pow a i, square-pow b j);
+      all = λ (p : 4 * n - 2 * a * (2 * a) * D ≡ 0). omega (arith, square-pow a i);
       more = λ (p : 0 < 4 * n - 2 * a * (2 * a) * D). omega arith;
     })
     (omega arith) (λ (p : 0 < i). omega arith)

@@ -1,8 +1,8 @@
--- `root::half` meets its contract. Assumes nothing.
-use Rattle.root.proofs.Ways.{ways}
+-- `whole_root::half` meets its contract. Assumes nothing.
+use Rattle.whole_root.proofs.Ways.{ways}
 use borrow.Author.Needs.{needs}
-use Rattle.root.proofs.half.Statement.{statement}
-use Rattle.root.proofs.half.Tie as tie
+use Rattle.whole_root.proofs.half.Statement.{statement}
+use Rattle.whole_root.proofs.half.Tie as tie
 
 add-result : tie.Need-add-result
 add-result c = search needs
