@@ -1,10 +1,74 @@
-/* The C interface of Jengafir: binary32 arithmetic, each function defined for every float. */
+/* The C interface of Jengafir: shapes drawn as path commands, and binary32 arithmetic. */
 #ifndef JENGAFIR_H
 #define JENGAFIR_H
+
+#include <stddef.h>
+#include <stdint.h>
 
 #ifdef __cplusplus
 extern "C" {
 #endif
+
+/* What a call that may refuse its input returns. */
+enum jengafir_refusal {
+    JENGAFIR_ACCEPTED = 0,          /* the answer is written */
+    JENGAFIR_EMPTY = 1,             /* empty input: no vertices, or no item rows */
+    JENGAFIR_TOO_MANY = 2,          /* too many vertices, rows, levels, commands or copies */
+    JENGAFIR_OUT_OF_RANGE = 3,      /* a number that is not finite, or over its limit */
+    JENGAFIR_UNLISTED = 4,          /* a code, flag or mode that is not listed */
+    JENGAFIR_UNSUPPORTED = 5,       /* an ellipse, a polystar, or a repeater that rotates */
+    JENGAFIR_BROKEN_NESTING = 6,    /* the first row is nested, or a row lies deeper than the row before it allows */
+    JENGAFIR_NOT_MERGEABLE = 7,     /* no row merges the rows before it */
+    JENGAFIR_TOO_SHORT = 8,         /* a path too short to be cut */
+    JENGAFIR_NO_SUCH_COPY = 9,      /* a copy index that is not below the number of copies */
+    JENGAFIR_NOT_FINITE = 10,       /* a copy whose matrix or opacity is not finite */
+    JENGAFIR_BUFFER_TOO_SMALL = 11, /* the codes or the numbers of the answer do not fit */
+    JENGAFIR_OUT_OF_BOUNDS = 12     /* entries needed past the end of a list, numbers left over, or no such command */
+};
+
+/* The codes of path commands. The numbers of a command stand in this order in the list of numbers. */
+enum jengafir_code {
+    JENGAFIR_MOVE = 0,  /* x, y */
+    JENGAFIR_LINE = 1,  /* x, y */
+    JENGAFIR_CUBIC = 2, /* two control points and the end: x1, y1, x2, y2, x, y */
+    JENGAFIR_CLOSE = 3, /* no numbers */
+    JENGAFIR_QUAD = 4   /* the control point and the end: x1, y1, x, y */
+};
+
+/* The kinds of item rows that are shapes, with the numbers that a row has from its place on. */
+enum jengafir_kind {
+    JENGAFIR_SH = 1, /* a path: its vertices, six numbers each as jengafir_draw_path reads them */
+    JENGAFIR_RC = 2, /* a rectangle: centre x, y; width, height; roundness */
+    JENGAFIR_EL = 3, /* an ellipse, which is not drawn yet */
+    JENGAFIR_SR = 4  /* a polystar, which is not drawn yet */
+};
+
+/* Of every call that draws: no pointer is null, and what is lent for writing overlaps nothing else that is lent.
+   On acceptance the commands stand at the start of both buffers, and the counts say how many codes and numbers
+   they are; places past the counts keep their content. On a refusal both counts are 0, and both buffers keep
+   their content. */
+
+/* Draws the path of `count` vertices, 1 to 1,024, open where `closed` is 0 and closed where it is 1.
+   A vertex is six numbers: x, y, the tangent that comes in, x and y, and the tangent that goes out, x and y. Tangents
+   are relative to the vertex. Every number is at most 1,048,576 in absolute value.
+   Reads the first 6 * count entries of `vertices`, and no entry past them.
+   Refuses, by the first of these that holds: 1, 2, 4 for `closed`, 12, 3, 11. */
+uint32_t jengafir_draw_path(uint32_t closed, const float *vertices, size_t vertices_len, size_t count,
+                            uint8_t *codes, size_t codes_len, float *numbers, size_t numbers_len,
+                            size_t *codes_written, size_t *numbers_written);
+
+/* Draws the shape of one item row, also where the row is hidden.
+   A row is six entries: kind, hidden (0 or 1), depth (not read here), mark (for a path 0 if open and 1 if closed,
+   else 0), place (where the row's numbers start in `items`), and count (the number of a path's vertices, else 0).
+   Every number is at most 1,048,576 in absolute value.
+   Reads the first six entries of `row`, and of `items` the numbers of this row alone.
+   Refuses a row list of fewer than six entries with 12, and then by the first of these that holds: 4 for an entry
+   of the row, 5, 1, 2, 12, 3, 11. */
+uint32_t jengafir_draw_item(const uint32_t *row, size_t row_len, const float *items, size_t items_len,
+                            uint8_t *codes, size_t codes_len, float *numbers, size_t numbers_len,
+                            size_t *codes_written, size_t *numbers_written);
+
+/* Each float function is defined for every float. */
 
 /* a * b + c, rounded once: IEEE 754's fusedMultiplyAdd. */
 float jengafir_mul_add(float a, float b, float c);

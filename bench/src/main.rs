@@ -1,4 +1,7 @@
-//! Times the library's functions, called through its C interface, against those of Rust's std.
+//! Times the library's functions, called through its C interface, against Rust's.
+
+#[cfg(drawing)]
+mod draw;
 
 use std::hint::black_box;
 use std::time::Instant;
@@ -14,14 +17,19 @@ const ROUNDS: usize = 40;
 /// A weight from -1 to 1 and two coordinates from -4096 to 4096, as those of drawings.
 type Input = [f32; 3];
 
-fn inputs() -> Vec<Input> {
+/// Pseudorandom numbers from -1 to 1.
+fn unit_numbers() -> impl FnMut() -> f32 {
     let mut state: u64 = 0x2545f4914f6cdd1d;
-    let mut unit = || {
+    move || {
         state ^= state << 13;
         state ^= state >> 7;
         state ^= state << 17;
         (state >> 40) as f32 / (1 << 23) as f32 - 1.0
-    };
+    }
+}
+
+fn inputs() -> Vec<Input> {
+    let mut unit = unit_numbers();
     (0..INPUTS).map(|_| [unit(), unit() * 4096.0, unit() * 4096.0]).collect()
 }
 
@@ -54,4 +62,6 @@ fn main() {
     for (name, [ours, theirs]) in [("mul_add", [best[0], best[1]]), ("hypot", [best[2], best[3]])] {
         println!("{name:9} {ours:7.2} {theirs:7.2} {:7.2}", ours / theirs);
     }
+    #[cfg(drawing)]
+    draw::run();
 }

@@ -1,8 +1,12 @@
 //! Compares the library with Rust's own functions on seeded random and edge inputs.
 
+#[cfg(drawing)]
+mod draw;
 mod float;
 mod random;
 mod report;
+#[cfg(drawing)]
+mod shapes;
 
 use random::Random;
 use report::Report;
@@ -10,7 +14,11 @@ use report::Report;
 /// Compares one part of the library on about this many inputs for each function.
 type Part = fn(&mut Random, usize, &mut Report);
 
-const PARTS: &[Part] = &[float::compare];
+const PARTS: &[Part] = &[
+    float::compare,
+    #[cfg(drawing)]
+    draw::compare,
+];
 
 const SEED: u64 = 1;
 const COUNT: usize = 1_000_000;
@@ -29,6 +37,11 @@ fn main() {
     let mut report = Report::new();
     for part in PARTS {
         part(&mut Random::new(seed), count, &mut report);
+    }
+    for (name, [accepted, refused @ ..]) in &report.outcomes {
+        let met = (1..).zip(refused).filter(|(_, &times)| times > 0);
+        let met: Vec<String> = met.map(|(number, times)| format!("{number}: {times}")).collect();
+        println!("oracle: {name} accepted {accepted}, refused with {}", met.join(", "));
     }
     println!("oracle: {} comparisons, {} differences, seed {seed}", report.comparisons, report.differences);
     if report.differences > 0 {

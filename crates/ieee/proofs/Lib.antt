@@ -12,6 +12,7 @@ pub mod Sum
 pub mod Operations
 pub mod Grid
 pub mod Twins
+pub mod Counted
 pub mod Limits
 pub mod Order
 pub mod Monotone

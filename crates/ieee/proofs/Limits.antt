@@ -1,10 +1,10 @@
 -- Tests of |x| ≤ c on a grid, against a constant c = u / v that is not multiplied: a limit that no number of the grid passes (`within`), and a constant finer than the grid,
--- against which only a zero passes (`small-is-zero`). Assumes nothing.
+-- against which only a zero passes (`small-is-zero`); the latter also without the absolute value (`twin-le-small`). Assumes nothing.
 use mathlib.Core.Path.{_≡_, refl, sym, ap, _∙_, subst}
 use Prim.Native.Nat.{ℕ, zero, suc, _+_, _*_, _^_, _≤_, _<_}
 use native.Mathlib.Nat.{le-trans, le-of-eq, lt-irrefl, zero-lt-suc, zero-mul, suc-mul, mul-comm, mul-assoc, mul-right-comm, mul-le-mul-right, mul-pos}
 use native.Mathlib.Omega.{arith}
-use mathlib.Core.Bool.{Bool, false, _||_}
+use mathlib.Core.Bool.{Bool, true, false, _||_}
 use lib.Dec.{T, eqb, eqb→eq, eqb·suc-zero}
 use lib.Pow.{pow-add, pow-pos}
 use lib.Ieee.{Float, nan, inf, fin, up, down, le, below, level}
@@ -13,9 +13,9 @@ use lib.Ieee.Exact.{HasValue}
 use lib.Ieee.Order.{le-of-values}
 use Rattle.ieee.specs.Sign.{abs, isZero}
 use Rattle.ieee.specs.Grid.{scale, On, Twin}
-use Rattle.ieee.proofs.Tests.{same-test}
+use Rattle.ieee.proofs.Tests.{same-test, eqb-mul}
 use Rattle.ieee.proofs.Signed.{test→Le, Le→test}
-use Rattle.ieee.proofs.Value.{rescale, abs-val}
+use Rattle.ieee.proofs.Value.{rescale, abs-val, scale-val}
 use Rattle.ieee.proofs.Comparison.{le-at}
 use Rattle.ieee.proofs.Grid.{scale-on}
 
@@ -43,12 +43,11 @@ isZero-scale k (inf s) = refl
 isZero-scale k (fin s zero e) = refl
 isZero-scale k (fin s (suc m) e) = refl
 
--- ---- ±n ≤ ±w, as `le` tests it: a multiple of v is at most w < v just where it is none
-abbrev leTest : ℕ → ℕ → Bool
-leTest n w = below false n false w || level false n false w
-
-only-zero : (n v w : ℕ) → w < v → leTest (n * v) w ≡ eqb n 0
-only-zero n v w h = same-test (leTest (n * v) w) (eqb n 0) (λ t. none n (test→Le false (n * v) false w t)) (λ t. Le→test false (n * v) false w (all n (eqb→eq n 0 t)))
+-- ---- ±n ≤ w, as `le` tests it: a multiple of v is at most w < v just where it is negative or none
+only-zero : (s : Bool) (n v w : ℕ) → w < v → (below s (n * v) false w || level s (n * v) false w) ≡ (s || eqb n 0)
+only-zero true n v w h = same-test (below true (n * v) false w || level true (n * v) false w) true (λ t. tt) (λ t. Le→test true (n * v) false w (omega arith))
+only-zero false n v w h =
+    same-test (below false (n * v) false w || level false (n * v) false w) (eqb n 0) (λ t. none n (test→Le false (n * v) false w t)) (λ t. Le→test false (n * v) false w (all n (eqb→eq n 0 t)))
   where
     none : (n : ℕ) → n * v + 0 ≤ w + 0 → T (eqb n 0)
     none zero l = tt
@@ -57,16 +56,32 @@ only-zero n v w h = same-test (leTest (n * v) w) (eqb n 0) (λ t. none n (test�
     all : (n : ℕ) → n ≡ 0 → n * v + 0 ≤ w + 0
     all n e = let z : n * v ≡ 0 = ap (λ (x : ℕ). x * v) e ∙ zero-mul v in omega arith
 
--- c is below 2 ^ -q: |x| ≤ c says that x is a zero
-pub small-is-zero : (q b : ℕ) (x c : Float) (u v : ℕ) → On q b x → 0 < v → HasValue c false u v → u * 2 ^ q < v → le (abs x) c ≡ isZero x
-small-is-zero q b x c u v X pv w h =
-    le-at (abs x) c false false (X .count * v) (u * 2 ^ q) (2 ^ q * v) (mul-pos (pow-pos q) pv)
-    (rescale (abs x) false (X .count) (2 ^ q) (X .count * v) (2 ^ q * v) (pow-pos q) (mul-assoc (X .count) v (2 ^ q) ∙ ap (λ (z : ℕ). X .count * z) (mul-comm v (2 ^ q))) (abs-val x (X .sign) (X .count) (2 ^ q) (X .value)))
+-- c is below 2 ^ -q: x ≤ c says that x is negative or a zero
+le-small : (q : ℕ) (x c : Float) (s : Bool) (n u v : ℕ) → HasValue x s n (2 ^ q) → 0 < v → HasValue c false u v → u * 2 ^ q < v → le x c ≡ (s || eqb n 0)
+le-small q x c s n u v X pv w h =
+    le-at x c s false (n * v) (u * 2 ^ q) (2 ^ q * v) (mul-pos (pow-pos q) pv)
+    (rescale x s n (2 ^ q) (n * v) (2 ^ q * v) (pow-pos q) (mul-assoc n v (2 ^ q) ∙ ap (λ (z : ℕ). n * z) (mul-comm v (2 ^ q))) X)
     (rescale c false u v (u * 2 ^ q) (2 ^ q * v) pv (mul-assoc u (2 ^ q) v) w)
-    ∙ only-zero (X .count) v (u * 2 ^ q) h
-    ∙ sym (zero-val x (X .sign) (X .count) (2 ^ q) (pow-pos q) (X .value))
+    ∙ only-zero s n v (u * 2 ^ q) h
 
 -- so the test is the same for x times 2 ^ k
+pub twin-le-small : (k q b : ℕ) (x x' c : Float) (u v : ℕ) → Twin k q b x x' → 0 < v → HasValue c false u v → u * 2 ^ q < v → le x' c ≡ le x c
+twin-le-small k q b x x' c u v X pv w h =
+    let s = X .grid .sign in
+    let n = X .grid .count in
+    ap (λ (z : Float). le z c) (X .is)
+    ∙ le-small q (scale k x) c s (n * 2 ^ k) u v (scale-val k x s n (2 ^ q) (X .grid .value)) pv w h
+    ∙ ap (λ (z : ℕ). s || eqb (n * 2 ^ k) z) (sym (zero-mul (2 ^ k)))
+    ∙ ap (λ (z : Bool). s || z) (eqb-mul n 0 (2 ^ k) (pow-pos k))
+    ∙ sym (le-small q x c s n u v (X .grid .value) pv w h)
+
+-- and |x| ≤ c says that x is a zero
+pub small-is-zero : (q b : ℕ) (x c : Float) (u v : ℕ) → On q b x → 0 < v → HasValue c false u v → u * 2 ^ q < v → le (abs x) c ≡ isZero x
+small-is-zero q b x c u v X pv w h =
+    le-small q (abs x) c false (X .count) u v (abs-val x (X .sign) (X .count) (2 ^ q) (X .value)) pv w h
+    ∙ sym (zero-val x (X .sign) (X .count) (2 ^ q) (pow-pos q) (X .value))
+
+-- so this test is the same for x times 2 ^ k too
 pub twin-small : (k q b : ℕ) (x x' c : Float) (u v : ℕ) → Twin k q b x x' → 0 < v → HasValue c false u v → u * 2 ^ q < v → le (abs x') c ≡ le (abs x) c
 twin-small k q b x x' c u v X pv w h =
     ap (λ (z : Float). le (abs z) c) (X .is)

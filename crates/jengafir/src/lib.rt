@@ -1,12 +1,16 @@
 // The functions that C calls: include/jengafir.h declares them. Each hands its numbers on.
 ghost use mathlib.Core.Path.{_≡_};
 ghost use lib.Ieee.{binary32};
+ghost use lib.ListN.{length};
 ghost use Rattle.ieee.specs.Literal.{turn32};
 ghost use Rattle.ieee.specs.Sign as Sign;
 ghost use Rattle.ieee.specs.Whole as Whole;
 ghost use Rattle.ieee.specs.Remainder.{remEuclid};
 ghost use Rattle.ieee.specs.Fused.{fma};
 ghost use Rattle.ieee.specs.Root.{hypotOf};
+ghost use Rattle.command.specs.Outcomes.{Filled, fitted};
+ghost use Rattle.draw.specs.Paths.{drawPath};
+ghost use Rattle.draw.specs.Items.{drawItem};
 
 #[no_mangle]
 pub extern "C" fn jengafir_mul_add(a: f32, b: f32, c: f32) -> f32
@@ -55,4 +59,45 @@ pub extern "C" fn jengafir_rem_euclid_360(x: f32) -> f32
     ensures { λ r. ⌜ r ≡ remEuclid binary32 x turn32 ⌝ }
 {
     remainder::rem_euclid_360(x)
+}
+
+#[no_mangle]
+pub extern "C" fn jengafir_draw_path(
+    closed: u32,
+    vertices: &[f32],
+    count: usize,
+    codes: &mut [u8],
+    numbers: &mut [f32],
+    codes_written: &mut usize,
+    numbers_written: &mut usize,
+) -> u32
+    ensures { λ r. ⌜ Filled
+        (fitted (length (now (codes .entry))) (length (now (numbers .entry))) (drawPath closed (now (vertices .entry)) count))
+        r (now («codes_written» .exit)) (now («numbers_written» .exit))
+        (now (codes .entry)) (now (codes .exit)) (now (numbers .entry)) (now (numbers .exit)) ⌝ }
+{
+    let drawn = draw::draw_path(closed, vertices, count, codes, numbers);
+    *codes_written = command::drawn_codes(drawn);
+    *numbers_written = command::drawn_numbers(drawn);
+    command::drawn_number(drawn)
+}
+
+#[no_mangle]
+pub extern "C" fn jengafir_draw_item(
+    row: &[u32],
+    items: &[f32],
+    codes: &mut [u8],
+    numbers: &mut [f32],
+    codes_written: &mut usize,
+    numbers_written: &mut usize,
+) -> u32
+    ensures { λ r. ⌜ Filled
+        (fitted (length (now (codes .entry))) (length (now (numbers .entry))) (drawItem (now (row .entry)) (now (items .entry))))
+        r (now («codes_written» .exit)) (now («numbers_written» .exit))
+        (now (codes .entry)) (now (codes .exit)) (now (numbers .entry)) (now (numbers .exit)) ⌝ }
+{
+    let drawn = draw::draw_item(row, items, codes, numbers);
+    *codes_written = command::drawn_codes(drawn);
+    *numbers_written = command::drawn_numbers(drawn);
+    command::drawn_number(drawn)
 }

@@ -36,14 +36,14 @@ fn result(line: &[u8]) -> f32 {
     if starts(line, b"clamp ") {
         return float::clamp(operand(line, 6), operand(line, 15), operand(line, 24));
     }
-    nan()
+    pattern_text::nan()
 }
 
 // Whether the line starts with the word.
 fn starts(line: &[u8], word: &[u8]) -> bool {
     let mut i = 0;
     while i < word.len() {
-        if byte(line, i) != word[i] {
+        if pattern_text::byte(line, i) != word[i] {
             return false;
         }
         i += 1;
@@ -55,62 +55,13 @@ fn starts(line: &[u8], word: &[u8]) -> bool {
 fn operand(line: &[u8], at: usize) -> f32
     requires { ⌜ at < 100 ⌝ }
 {
-    let mut pattern = 0;
-    for i in at..at + 8 {
-        pattern = shifted(pattern, digit(byte(line, i)));
-    }
-    number(pattern)
-}
-
-// A pattern with one more hexadecimal digit at its end, and its first dropped.
-fn shifted(pattern: u32, digit: u32) -> u32 {
-    pattern % 0x1000_0000 * 16 + digit % 16
-}
-
-fn digit(b: u8) -> u32 {
-    if b >= b'a' {
-        (b - b'a') as u32 + 10
-    } else if b >= b'0' {
-        (b - b'0') as u32
-    } else {
-        0
-    }
-}
-
-// The byte at `i`, and 0 past the line's end.
-fn byte(line: &[u8], i: usize) -> u8 {
-    if i < line.len() { line[i] } else { 0 }
-}
-
-fn number(pattern: u32) -> f32 {
-    if pattern % 0x8000_0000 <= 0x7f80_0000 {
-        f32::from_bits(pattern)
-    } else {
-        nan()
-    }
-}
-
-fn nan() -> f32 {
-    0.0 / 0.0
-}
-
-fn wide(pattern: u32) -> u64 {
-    pattern as u64
-}
-
-// Writes the number's pattern, or `nan`.
-fn print(x: f32) {
-    if x == x {
-        io::print_hex(STDOUT_FILENO, wide(f32::to_bits(x)), 8);
-    } else {
-        io::write_all(STDOUT_FILENO, b"nan");
-    }
+    pattern_text::number(pattern_text::pattern(line, at))
 }
 
 fn answer(line: &[u8]) {
     io::write_all(STDOUT_FILENO, line);
     io::write_all(STDOUT_FILENO, b" = ");
-    print(result(line));
+    pattern_text::print(result(line));
     io::write_all(STDOUT_FILENO, b"\n");
 }
 

@@ -1,0 +1,101 @@
+//! Times drawing vertex lists, through the C interface, against the Rust's own function over its stand-ins.
+
+use crate::unit_numbers;
+use source::{BezierPath, BezierVertex};
+use std::hint::black_box;
+use std::time::Instant;
+
+extern "C" {
+    fn jengafir_draw_path(
+        closed: u32,
+        vertices: *const f32,
+        vertices_len: usize,
+        count: usize,
+        codes: *mut u8,
+        codes_len: usize,
+        numbers: *mut f32,
+        numbers_len: usize,
+        codes_written: *mut usize,
+        numbers_written: *mut usize,
+    ) -> u32;
+}
+
+const VERTICES: usize = 1_024;
+/// So many lists that no processor remembers which segments are lines.
+const LISTS: usize = 64;
+const ROUNDS: usize = 40;
+
+/// A closed list, in the form of either side.
+struct Drawing {
+    numbers: Vec<f32>,
+    path: BezierPath,
+}
+
+/// Vertices from -4096 to 4096 with tangents up to 512; each segment is a line in so many of 16 cases.
+fn drawing(unit: &mut impl FnMut() -> f32, lines_of_16: u32) -> Drawing {
+    let mut numbers: Vec<f32> = (0..6 * VERTICES).map(|i| unit() * if i % 6 < 2 { 4096.0 } else { 512.0 }).collect();
+    for i in 0..VERTICES {
+        if (unit() + 1.0) * 8.0 < lines_of_16 as f32 {
+            let next = (i + 1) % VERTICES;
+            numbers[6 * i + 4..6 * i + 6].fill(0.0);
+            numbers[6 * next + 2..6 * next + 4].fill(0.0);
+        }
+    }
+    let vertices = numbers.chunks(6).map(|v| BezierVertex {
+        vertex: [v[0], v[1]],
+        in_tangent: [v[2], v[3]],
+        out_tangent: [v[4], v[5]],
+    });
+    let path = BezierPath { closed: true, vertices: vertices.collect() };
+    Drawing { numbers, path }
+}
+
+/// Draws with ours, and gives how many numbers were written.
+fn draw(drawing: &Drawing, codes: &mut [u8], numbers: &mut [f32]) -> usize {
+    let mut written = [0; 2];
+    let [codes_written, numbers_written] = &mut written;
+    let refusal = unsafe {
+        jengafir_draw_path(
+            1,
+            drawing.numbers.as_ptr(),
+            drawing.numbers.len(),
+            VERTICES,
+            codes.as_mut_ptr(),
+            codes.len(),
+            numbers.as_mut_ptr(),
+            numbers.len(),
+            codes_written,
+            numbers_written,
+        )
+    };
+    assert_eq!(refusal, 0);
+    written[1]
+}
+
+/// Nanoseconds a vertex for f, over all drawings.
+fn time(drawings: &[Drawing], mut f: impl FnMut(&Drawing) -> usize) -> f64 {
+    let start = Instant::now();
+    let mut sum = 0;
+    for drawing in black_box(drawings) {
+        sum += f(drawing);
+    }
+    black_box(sum);
+    start.elapsed().as_nanos() as f64 / (LISTS * VERTICES) as f64
+}
+
+pub fn run() {
+    println!("ns a vertex  ours    Rust   ratio");
+    for (name, lines_of_16) in [("cubics", 0), ("half lines", 8)] {
+        let mut unit = unit_numbers();
+        let drawings: Vec<Drawing> = (0..LISTS).map(|_| drawing(&mut unit, lines_of_16)).collect();
+        let mut codes = [0; VERTICES + 2];
+        let mut numbers = [0.0; 6 * VERTICES + 2];
+        let mut best = [f64::INFINITY; 2];
+        for _ in 0..ROUNDS {
+            let ours = time(&drawings, |d| draw(d, &mut codes, black_box(&mut numbers)));
+            let theirs = time(&drawings, |d| black_box(source::bezier_path(&d.path)).unwrap().numbers.len());
+            best = [best[0].min(ours), best[1].min(theirs)];
+        }
+        println!("{name:10}{:7.2} {:7.2} {:7.2}", best[0], best[1], best[0] / best[1]);
+    }
+}

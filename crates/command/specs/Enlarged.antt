@@ -1,0 +1,36 @@
+-- Commands whose every number is multiplied by a power of two, and the limit of a command list's numbers. Definitions only.
+use Prim.Native.Nat.{ℕ}
+use mathlib.Core.Path.{_≡_}
+use mathlib.Core.List.{List, [], _∷_, map}
+use lib.Ieee.{Float, ofBits, binary32}
+use Rattle.ieee.specs.Grid.{scale, On}
+use Rattle.command.specs.declared.PathCommand.{PathCommand}
+use Rattle.command.specs.declared.PathCommand.the-variants.{Move, Line, Cubic, Close, Quad}
+use Rattle.command.specs.Commands.{coordinatesOf, numbersOf}
+
+-- the command with every number times 2 ^ k, exactly
+abbrev pub enlarged : ℕ → PathCommand → PathCommand
+enlarged k (Move x y) = Move (scale k x) (scale k y)
+enlarged k (Line x y) = Line (scale k x) (scale k y)
+enlarged k (Cubic ax ay bx by x y) = Cubic (scale k ax) (scale k ay) (scale k bx) (scale k by) (scale k x) (scale k y)
+enlarged k Close = Close
+enlarged k (Quad ax ay x y) = Quad (scale k ax) (scale k ay) (scale k x) (scale k y)
+
+-- every number of the list is a whole multiple of 2 ^ -q, and at most 2 ^ b in absolute value
+abbrev pub AllOn : ℕ → ℕ → List Float → Type 0
+AllOn q b [] = Unit {0}
+AllOn q b (x ∷ xs) = On q b x × AllOn q b xs
+
+-- c' is c with every number times 2 ^ k, and the numbers of c are on the grid
+pub record CommandTwin (k q b : ℕ) (c c' : PathCommand) : Type 0 where
+  pub command : c' ≡ enlarged k c
+  pub grid : AllOn q b (coordinatesOf c)
+
+-- the same of two lists, command by command
+pub record Twins (k q b : ℕ) (cs cs' : List PathCommand) : Type 0 where
+  pub commands : cs' ≡ map (enlarged k) cs
+  pub grid : AllOn q b (numbersOf cs)
+
+-- 4,194,304, which is 2 ^ 22: no number of a command list is larger
+abbrev pub commandLimit : Float
+commandLimit = ofBits binary32 0x4a800000

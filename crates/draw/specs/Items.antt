@@ -1,0 +1,68 @@
+-- What drawing one item row answers, whatever it is given. Definitions only.
+use Prim.Native.Nat.{ℕ, _+_, _*_}
+use mathlib.Core.Bool.{Bool, cond, _&&_}
+use mathlib.Core.List.{List}
+use lib.Dec.{eqb, ltb, leb}
+use lib.Ieee.{Float, nan}
+use lib.ListN.{length, getD, take, drop}
+use Rattle.command.specs.declared.Refusal.the-variants.{Empty, TooMany, OutOfRange, Unlisted, Unsupported, OutOfBounds}
+use Rattle.command.specs.Outcomes.{Outcome, refused, drawn}
+use Rattle.rect.specs.Rect.{rectCorners}
+use Rattle.shape.specs.declared.Shape.{Shape}
+use Rattle.shape.specs.declared.Shape.the-variants.{Path, Rect}
+use Rattle.shape.specs.Shape.{shapeCommands}
+use Rattle.draw.specs.declared.ItemRow.{ItemRow}
+use Rattle.draw.specs.Checks.{coordinateLimit, allWithin}
+
+-- the six entries of the row at place r: kind, hidden, depth, mark, place, count
+abbrev pub itemRow : List ℕ → ℕ → ItemRow
+itemRow rows r = record {
+  kind = getD rows (6 * r) 0;
+  hidden = getD rows (6 * r + 1) 0;
+  depth = getD rows (6 * r + 2) 0;
+  mark = getD rows (6 * r + 3) 0;
+  place = getD rows (6 * r + 4) 0;
+  count = getD rows (6 * r + 5) 0;
+}
+
+-- the kinds that can be asked to be drawn: sh 1, rc 2, el 3, sr 4
+abbrev pub isPath : ItemRow → Bool
+isPath row = eqb (row .kind) 1
+
+abbrev pub isOther : ItemRow → Bool
+isOther row = leb 2 (row .kind) && leb (row .kind) 4
+
+-- A path has a closed flag and a count; the others have neither. The depth is not read.
+unfoldable pub isDrawable : ItemRow → Bool
+isDrawable row = leb (row .hidden) 1 && cond (isPath row) (leb (row .mark) 1) (isOther row && eqb (row .mark) 0 && eqb (row .count) 0)
+
+-- a path without vertices
+abbrev pub isBare : ItemRow → Bool
+isBare row = isPath row && eqb (row .count) 0
+
+-- how many numbers the row has in the item list: six a vertex, or a rectangle's centre, size and roundness
+abbrev pub entriesOf : ItemRow → ℕ
+entriesOf row = cond (isPath row) (6 * row .count) 5
+
+-- the shape of a path or a rectangle whose numbers stand at the start of v
+unfoldable pub itemShape : ItemRow → List Float → Shape
+itemShape row v =
+    cond (isPath row) (Path (row .mark) (row .count)) (Rect (rectCorners (getD v 0 nan) (getD v 1 nan) (getD v 2 nan) (getD v 3 nan) (getD v 4 nan)))
+
+-- a row with listed entries: the checks 5, 1, 2, 12, 3 in this order, then the commands
+unfoldable pub drawSource : ItemRow → List Float → Outcome
+unfolding allWithin shapeCommands itemShape
+drawSource row items =
+    let v = drop (row .place) items in
+    cond (ltb 2 (row .kind)) (refused Unsupported)
+    (cond (isBare row) (refused Empty)
+    (cond (ltb 1024 (row .count)) (refused TooMany)
+    (cond (ltb (length items) (row .place + entriesOf row)) (refused OutOfBounds)
+    (cond (allWithin coordinateLimit (take (entriesOf row) v)) (drawn (shapeCommands (itemShape row v) v)) (refused OutOfRange)))))
+
+-- one row: fewer than six entries hold no row, which is 12; then 4, and the checks above
+unfoldable pub drawItem : List ℕ → List Float → Outcome
+unfolding isDrawable drawSource
+drawItem row items =
+    cond (ltb (length row) 6) (refused OutOfBounds)
+    (cond (isDrawable (itemRow row 0)) (drawSource (itemRow row 0) items) (refused Unlisted))

@@ -1,0 +1,228 @@
+// The calls that draw a vertex list or one item row: the checks in document 01's order, then the writing.
+use command::Drawn;
+use command::Refusal;
+use shape::Shape;
+ghost use mathlib.Core.Path.{_≡_};
+ghost use Prim.Native.Nat.{_+_, _*_, _≤_};
+ghost use lib.ListN.{length, drop};
+ghost use Rattle.command.specs.Outcomes.{Filled, Outcome, fitted, drawnNumber, drawnCodes, drawnNumbers};
+ghost use Rattle.draw.specs.Checks.{coordinateLimit, allWithin, outcomeOf, Ready};
+ghost use Rattle.draw.specs.Paths.{drawPath};
+ghost use Rattle.draw.specs.Items.{itemRow, isDrawable, isBare, entriesOf, itemShape, drawSource, drawItem};
+
+// One row of an item list.
+pub struct ItemRow {
+    pub kind: u32,
+    pub hidden: u32,
+    pub depth: u32,
+    // The closed flag of a path.
+    pub mark: u32,
+    // Where its numbers start.
+    pub place: usize,
+    // How many vertices.
+    pub count: usize,
+}
+
+// What the checks find: the first refusal, or a shape and the place where its numbers start.
+pub enum Checked {
+    Fault(Refusal),
+    Sound(usize, Shape),
+}
+
+// Whether each number is within the limit for shapes.
+fn all_within(numbers: &[f32]) -> bool
+    ensures { λ r. ⌜ r ≡ allWithin coordinateLimit (now (numbers .entry)) ⌝ }
+{
+    let mut i: usize = 0;
+    while i < numbers.len() {
+        if float::is_within(numbers[i], 1048576.0) {
+            i += 1;
+        } else {
+            return false;
+        }
+    }
+    true
+}
+
+// The checks of a vertex list, all but that of the buffers.
+fn check_path(closed: u32, vertices: &[f32], count: usize) -> Checked
+    ensures { λ r. ⌜ (outcomeOf r (now (vertices .entry)) ≡ drawPath closed (now (vertices .entry)) count) × Ready r (now (vertices .entry)) ⌝ }
+{
+    if count == 0 {
+        return Checked::Fault(Refusal::Empty);
+    }
+    if count > 1024 {
+        return Checked::Fault(Refusal::TooMany);
+    }
+    if closed > 1 {
+        return Checked::Fault(Refusal::Unlisted);
+    }
+    let n = 6 * count;
+    if vertices.len() < n {
+        return Checked::Fault(Refusal::OutOfBounds);
+    }
+    if all_within(&vertices[..n]) {
+        Checked::Sound(0, Shape::Path(closed, count))
+    } else {
+        Checked::Fault(Refusal::OutOfRange)
+    }
+}
+
+// The row at a place of a list of rows.
+fn item_row(rows: &[u32], r: usize) -> ItemRow
+    requires { ⌜ 6 * r + 6 ≤ length (now rows) ⌝ }
+    ensures { λ row. ⌜ row ≡ itemRow (now (rows .entry)) r ⌝ }
+{
+    let i = 6 * r;
+    ItemRow {
+        kind: rows[i],
+        hidden: rows[i + 1],
+        depth: rows[i + 2],
+        mark: rows[i + 3],
+        place: rows[i + 4] as usize,
+        count: rows[i + 5] as usize,
+    }
+}
+
+// Whether a row that is to be drawn has only listed entries.
+fn is_drawable(row: ItemRow) -> bool
+    ensures { λ r. ⌜ r ≡ isDrawable row ⌝ }
+{
+    if row.hidden > 1 {
+        return false;
+    }
+    if row.kind == 1 {
+        return row.mark <= 1;
+    }
+    if row.kind < 2 {
+        return false;
+    }
+    if row.kind > 4 {
+        return false;
+    }
+    if row.mark != 0 {
+        return false;
+    }
+    row.count == 0
+}
+
+// Whether a row is a path without vertices.
+fn is_bare(row: ItemRow) -> bool
+    ensures { λ r. ⌜ r ≡ isBare row ⌝ }
+{
+    if row.kind == 1 { row.count == 0 } else { false }
+}
+
+// How many numbers a path or a rectangle has in the item list.
+fn entries_of(row: ItemRow) -> usize
+    requires { ⌜ row .count ≤ 1024 ⌝ }
+    ensures { λ r. ⌜ r ≡ entriesOf row ⌝ }
+{
+    if row.kind == 1 { 6 * row.count } else { 5 }
+}
+
+// What a path's or a rectangle's row says is to be drawn.
+fn shape_of(row: ItemRow, items: &[f32]) -> Shape
+    requires { ⌜ row .place + entriesOf row ≤ length (now items) ⌝ }
+    ensures { λ r. ⌜ r ≡ itemShape row (drop (row .place) (now (items .entry))) ⌝ }
+{
+    if row.kind == 1 {
+        return Shape::Path(row.mark, row.count);
+    }
+    let i = row.place;
+    Shape::Rect(rect::rect_corners(
+        items[i],
+        items[i + 1],
+        items[i + 2],
+        items[i + 3],
+        items[i + 4],
+    ))
+}
+
+// The checks of a row with listed entries, all but that of the buffers.
+fn check_source(row: ItemRow, items: &[f32]) -> Checked
+    ensures { λ r. ⌜ (outcomeOf r (now (items .entry)) ≡ drawSource row (now (items .entry))) × Ready r (now (items .entry)) ⌝ }
+{
+    if row.kind > 2 {
+        return Checked::Fault(Refusal::Unsupported);
+    }
+    if is_bare(row) {
+        return Checked::Fault(Refusal::Empty);
+    }
+    if row.count > 1024 {
+        return Checked::Fault(Refusal::TooMany);
+    }
+    let place = row.place;
+    let n = entries_of(row);
+    if items.len() < n {
+        return Checked::Fault(Refusal::OutOfBounds);
+    }
+    if items.len() - n < place {
+        return Checked::Fault(Refusal::OutOfBounds);
+    }
+    if all_within(&items[place..place + n]) {
+        Checked::Sound(place, shape_of(row, items))
+    } else {
+        Checked::Fault(Refusal::OutOfRange)
+    }
+}
+
+// The checks of one item row, all but that of the buffers.
+fn check_item(row: &[u32], items: &[f32]) -> Checked
+    ensures { λ r. ⌜ (outcomeOf r (now (items .entry)) ≡ drawItem (now (row .entry)) (now (items .entry))) × Ready r (now (items .entry)) ⌝ }
+{
+    if row.len() < 6 {
+        return Checked::Fault(Refusal::OutOfBounds);
+    }
+    let item = item_row(row, 0);
+    if is_drawable(item) {
+        check_source(item, items)
+    } else {
+        Checked::Fault(Refusal::Unlisted)
+    }
+}
+
+// Writes what the checks let pass, if it fits the buffers.
+fn draw_checked(checked: Checked, list: &[f32], codes: &mut [u8], numbers: &mut [f32]) -> Drawn
+    requires { ⌜ Ready checked (now list) ⌝ }
+    ensures { λ r. ⌜ Filled
+        (fitted (length (now (codes .entry))) (length (now (numbers .entry))) (outcomeOf checked (now (list .entry))))
+        (drawnNumber r) (drawnCodes r) (drawnNumbers r)
+        (now (codes .entry)) (now (codes .exit)) (now (numbers .entry)) (now (numbers .exit)) ⌝ }
+{
+    match checked {
+        Checked::Fault(refusal) => Drawn::Refused(refusal),
+        Checked::Sound(place, shape) => shape::draw_shape(shape, &list[place..], codes, numbers),
+    }
+}
+
+// Draws the first `count` vertices of a list, each of six numbers, into two buffers.
+pub fn draw_path(
+    closed: u32,
+    vertices: &[f32],
+    count: usize,
+    codes: &mut [u8],
+    numbers: &mut [f32],
+) -> Drawn
+    ensures { λ r. ⌜ Filled
+        (fitted (length (now (codes .entry))) (length (now (numbers .entry))) (drawPath closed (now (vertices .entry)) count))
+        (drawnNumber r) (drawnCodes r) (drawnNumbers r)
+        (now (codes .entry)) (now (codes .exit)) (now (numbers .entry)) (now (numbers .exit)) ⌝ }
+{
+    draw_checked(
+        check_path(closed, vertices, count),
+        vertices,
+        codes,
+        numbers,
+    )
+}
+
+// Draws one item row into two buffers.
+pub fn draw_item(row: &[u32], items: &[f32], codes: &mut [u8], numbers: &mut [f32]) -> Drawn
+    ensures { λ r. ⌜ Filled
+        (fitted (length (now (codes .entry))) (length (now (numbers .entry))) (drawItem (now (row .entry)) (now (items .entry))))
+        (drawnNumber r) (drawnCodes r) (drawnNumbers r)
+        (now (codes .entry)) (now (codes .exit)) (now (numbers .entry)) (now (numbers .exit)) ⌝ }
+{
+    draw_checked(check_item(row, items), items, codes, numbers)
+}

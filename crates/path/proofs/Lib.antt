@@ -1,0 +1,5 @@
+-- The laws of the path of a vertex list.
+pub mod Paths
+pub mod Enlarged
+pub mod Counts
+pub mod Ways

@@ -1,0 +1,2 @@
+-- The path of a vertex list.
+pub mod Path

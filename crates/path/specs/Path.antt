@@ -1,0 +1,76 @@
+-- The path of a vertex list: `build_bezier_path` of drawing_paths.rs, as a list of commands. Definitions only.
+use Prim.Native.Nat.{ℕ, zero, suc, _+_, _*_, _≤_, _<_}
+use mathlib.Core.Bool.{Bool, true, false, cond, _&&_}
+use mathlib.Core.List.{List, [], _∷_, _++_}
+use lib.Ieee.{Float, nan, add, sub, ofBits, binary32}
+use lib.ListN.{length, getD, drop}
+use lib.Dec.{eqb}
+use Rattle.ieee.specs.Limit.{within}
+use Rattle.command.specs.declared.PathCommand.{PathCommand}
+use Rattle.command.specs.declared.PathCommand.the-variants.{Move, Line, Cubic, Close}
+use Rattle.path.specs.declared.BezierVertex.{BezierVertex}
+
+-- the six numbers of the vertex at place k: the vertex, its in-tangent, its out-tangent
+abbrev pub vertexAt : List Float → ℕ → BezierVertex
+vertexAt v k = record {
+  x = getD v (6 * k) nan;
+  y = getD v (6 * k + 1) nan;
+  ix = getD v (6 * k + 2) nan;
+  iy = getD v (6 * k + 3) nan;
+  ox = getD v (6 * k + 4) nan;
+  oy = getD v (6 * k + 5) nan;
+}
+
+-- the first n vertices of a list of numbers
+unfoldable pub verticesOf : ℕ → List Float → List BezierVertex
+verticesOf zero v = []
+verticesOf (suc n) v = vertexAt v 0 ∷ verticesOf n (drop 6 v)
+
+-- the f32 nearest to 1e-4, `EPSILON` of `approx_eq_vec2`
+abbrev pub linearTolerance : Float
+linearTolerance = ofBits binary32 0x38d1b717
+
+-- within 1e-4 of each other, equality included
+abbrev pub approxEq : Float → Float → Bool
+approxEq a b = within linearTolerance (sub binary32 a b)
+
+-- both control points, (cx, cy) and (dx, dy), are within 1e-4 of their ends in each axis
+abbrev pub isLinearSegment : BezierVertex → Float → Float → Float → Float → BezierVertex → Bool
+isLinearSegment a cx cy dx dy b = (approxEq (a .x) cx && approxEq (a .y) cy) && (approxEq dx (b .x) && approxEq dy (b .y))
+
+-- the segment between two vertices: a line, or a cubic whose control points are the vertices plus their tangents
+unfoldable pub bezierSegment : BezierVertex → BezierVertex → PathCommand
+bezierSegment a b =
+    let cx = add binary32 (a .x) (a .ox) in
+    let cy = add binary32 (a .y) (a .oy) in
+    let dx = add binary32 (b .x) (b .ix) in
+    let dy = add binary32 (b .y) (b .iy) in
+    cond (isLinearSegment a cx cy dx dy b) (Line (b .x) (b .y)) (Cubic cx cy dx dy (b .x) (b .y))
+
+-- a segment per neighbour pair, from a on
+unfoldable pub bezierSegments : BezierVertex → List BezierVertex → List PathCommand
+bezierSegments a [] = []
+bezierSegments a (b ∷ bs) = bezierSegment a b ∷ bezierSegments b bs
+
+-- One vertex is a move and a line to it, flag ignored. If closed, the segments go on back to the first vertex, and a close follows.
+unfoldable pub bezierPath : Bool → List BezierVertex → List PathCommand
+unfolding bezierSegments
+bezierPath closed [] = []
+bezierPath closed (a ∷ []) = Move (a .x) (a .y) ∷ Line (a .x) (a .y) ∷ []
+bezierPath false (a ∷ (b ∷ bs)) = Move (a .x) (a .y) ∷ bezierSegments a (b ∷ bs)
+bezierPath true (a ∷ (b ∷ bs)) = Move (a .x) (a .y) ∷ bezierSegments a ((b ∷ bs) ++ a ∷ []) ++ Close ∷ []
+
+-- how many commands that is, for one vertex or more
+abbrev pub bezierCount : ℕ → ℕ → ℕ
+bezierCount closed count = cond (eqb count 1) 2 (cond (eqb closed 1) (count + 2) count)
+
+-- the commands of the first `count` vertices of v, with the closed flag as a number
+unfoldable pub pathCommands : ℕ → List Float → ℕ → List PathCommand
+unfolding bezierPath verticesOf
+pathCommands closed v count = bezierPath (eqb closed 1) (verticesOf count v)
+
+-- what the checks leave to the drawing of a vertex list
+pub record Sound (v : List Float) (count : ℕ) : Type 0 where
+  pub some : 0 < count
+  pub few : count ≤ 1024
+  pub inside : 6 * count ≤ length v

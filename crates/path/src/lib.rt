@@ -1,0 +1,102 @@
+// A vertex list as path commands: `build_bezier_path` of drawing_paths.rs, a command at a time.
+use command::PathCommand;
+ghost use mathlib.Core.Path.{_≡_};
+ghost use mathlib.Core.Bool.{Bool, _&&_};
+ghost use Prim.Native.Nat.{_+_, _*_, _<_, _≤_};
+ghost use lib.ListN.{length, getD};
+ghost use Rattle.command.specs.declared.PathCommand.the-variants.{Close};
+ghost use Rattle.path.specs.Path.{vertexAt, verticesOf, approxEq, bezierSegment, bezierPath, bezierCount, Sound};
+
+// A vertex with its in-tangent and its out-tangent, both relative to it.
+pub struct BezierVertex {
+    pub x: f32,
+    pub y: f32,
+    pub ix: f32,
+    pub iy: f32,
+    pub ox: f32,
+    pub oy: f32,
+}
+
+// Within 1e-4, equality included.
+fn approx_eq(a: f32, b: f32) -> bool
+    ensures { λ r. ⌜ r ≡ approxEq a b ⌝ }
+{
+    float::is_within(a - b, 0.0001)
+}
+
+// Whether two points are within 1e-4 in each axis.
+fn approx_eq_point(ax: f32, ay: f32, bx: f32, by: f32) -> bool
+    ensures { λ r. ⌜ r ≡ (approxEq ax bx && approxEq ay by) ⌝ }
+{
+    if approx_eq(ax, bx) {
+        approx_eq(ay, by)
+    } else {
+        false
+    }
+}
+
+// The vertex at a place of the list.
+fn vertex_at(vertices: &[f32], k: usize) -> BezierVertex
+    requires { ⌜ 6 * k + 6 ≤ length (now vertices) ⌝ }
+    ensures { λ r. ⌜ r ≡ vertexAt (now (vertices .entry)) k ⌝ }
+{
+    let i = 6 * k;
+    BezierVertex {
+        x: vertices[i],
+        y: vertices[i + 1],
+        ix: vertices[i + 2],
+        iy: vertices[i + 3],
+        ox: vertices[i + 4],
+        oy: vertices[i + 5],
+    }
+}
+
+// The segment between two vertices: a line if both control points are near their ends.
+fn bezier_segment(a: BezierVertex, b: BezierVertex) -> PathCommand
+    ensures { λ r. ⌜ r ≡ bezierSegment a b ⌝ }
+{
+    let cx = a.x + a.ox;
+    let cy = a.y + a.oy;
+    let dx = b.x + b.ix;
+    let dy = b.y + b.iy;
+    if approx_eq_point(a.x, a.y, cx, cy) {
+        if approx_eq_point(dx, dy, b.x, b.y) {
+            return PathCommand::Line(b.x, b.y);
+        }
+    }
+    PathCommand::Cubic(cx, cy, dx, dy, b.x, b.y)
+}
+
+// The command at place k of the path of the first `count` vertices, open or closed.
+pub fn bezier_command(vertices: &[f32], count: usize, k: usize) -> PathCommand
+    requires { ⌜ Sound (now vertices) count ⌝ }
+    ensures { λ r. ⌜ ((c : Bool) → k < length (bezierPath c (verticesOf count (now (vertices .entry))))
+        → r ≡ getD (bezierPath c (verticesOf count (now (vertices .entry)))) k Close) ⌝ }
+{
+    if k == 0 {
+        let a = vertex_at(vertices, 0);
+        return PathCommand::Move(a.x, a.y);
+    }
+    if count == 1 {
+        let a = vertex_at(vertices, 0);
+        return PathCommand::Line(a.x, a.y);
+    }
+    if k < count {
+        return bezier_segment(vertex_at(vertices, k - 1), vertex_at(vertices, k));
+    }
+    if k == count {
+        return bezier_segment(vertex_at(vertices, count - 1), vertex_at(vertices, 0));
+    }
+    PathCommand::Close
+}
+
+// How many commands the path has.
+pub fn bezier_count(closed: u32, count: usize) -> usize
+    requires { ⌜ count ≤ 1024 ⌝ }
+    ensures { λ r. ⌜ r ≡ bezierCount closed count ⌝ }
+{
+    if count == 1 {
+        return 2;
+    }
+    if closed == 1 { count + 2 } else { count }
+}

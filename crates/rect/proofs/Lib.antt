@@ -1,0 +1,3 @@
+-- What the proofs of `rect` cite.
+pub mod Enlarged
+pub mod Ways

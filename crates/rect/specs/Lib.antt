@@ -1,0 +1,2 @@
+-- The path of a rectangle.
+pub mod Rect

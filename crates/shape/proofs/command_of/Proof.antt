@@ -1,0 +1,34 @@
+-- `shape::command_of` meets its contract. Assumes nothing.
+use Rattle.shape.proofs.Ways.{ways}
+use borrow.Author.Needs.{needs}
+use Rattle.shape.proofs.command_of.Statement.{statement}
+use Rattle.shape.proofs.command_of.Tie as tie
+
+enum-known-shape : tie.Need-enum-known-shape
+enum-known-shape c = search needs
+
+bezier-command-requires : tie.Need-bezier-command-requires
+bezier-command-requires c κs = search (needs, ways)
+
+enum-known-shape-2 : tie.Need-enum-known-shape-2
+enum-known-shape-2 c = search needs
+
+rect-command-requires : tie.Need-rect-command-requires
+rect-command-requires c κs = search needs
+
+returns : tie.Need-returns
+returns c = search (needs, ways)
+
+returns-2 : tie.Need-returns-2
+returns-2 c = search (needs, ways)
+
+pub command-of-spec : {M : Type 1} → statement M
+command-of-spec =
+    tie.close
+    (tie.spec
+    enum-known-shape
+    bezier-command-requires
+    enum-known-shape-2
+    rect-command-requires
+    returns
+    returns-2)

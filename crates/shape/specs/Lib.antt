@@ -1,0 +1,2 @@
+-- What a shape draws.
+pub mod Shape

@@ -1,0 +1,2 @@
+-- What the proofs of `vectors_draw` cite.
+pub mod Parts

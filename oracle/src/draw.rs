@@ -1,0 +1,268 @@
+//! Compares the drawing calls: the Rust's own functions, under document 01's refusals, against ours.
+
+use crate::random::Random;
+use crate::report::{Outcomes, Report};
+use crate::shapes::{any_item, any_path, edges, Input, MOST_VERTICES, RC, SH};
+use source::{BezierPath, BezierVertex, Path, ShapeItem};
+
+extern "C" {
+    fn jengafir_draw_path(
+        closed: u32,
+        vertices: *const f32,
+        vertices_len: usize,
+        count: usize,
+        codes: *mut u8,
+        codes_len: usize,
+        numbers: *mut f32,
+        numbers_len: usize,
+        codes_written: *mut usize,
+        numbers_written: *mut usize,
+    ) -> u32;
+    fn jengafir_draw_item(
+        row: *const u32,
+        row_len: usize,
+        items: *const f32,
+        items_len: usize,
+        codes: *mut u8,
+        codes_len: usize,
+        numbers: *mut f32,
+        numbers_len: usize,
+        codes_written: *mut usize,
+        numbers_written: *mut usize,
+    ) -> u32;
+}
+
+const LIMIT: f32 = 1_048_576.0;
+
+pub fn compare(random: &mut Random, count: usize, report: &mut Report) {
+    let mut paths: Outcomes = [0; 13];
+    let mut items: Outcomes = [0; 13];
+    compare_edges(random, report, &mut paths, &mut items);
+    for _ in 0..count {
+        let path = any_path(random);
+        judge(random, report, &mut paths, &path);
+        let item = any_item(random);
+        judge(random, report, &mut items, &item);
+    }
+    report.outcomes.push(("draw_path", paths));
+    report.outcomes.push(("draw_item", items));
+}
+
+/// Paths of two vertices, and rectangles, whose numbers are edges.
+fn compare_edges(random: &mut Random, report: &mut Report, paths: &mut Outcomes, items: &mut Outcomes) {
+    let edges = edges();
+    for &x in &edges {
+        for &tangent in &edges {
+            let vertices = vec![x, 0.0, 0.0, 0.0, tangent, 0.0, 1.0, x, 0.0, 0.0, 0.0, 0.0];
+            judge(random, report, paths, &Input::Path { closed: 0, vertices, count: 2 });
+            let vertices = vec![1.0, 2.0, 0.0, 0.0, 0.0, 0.0, 3.0, x, 0.0, tangent, 0.0, 0.0];
+            judge(random, report, paths, &Input::Path { closed: 1, vertices, count: 2 });
+            for &y in &edges {
+                for numbers in [vec![1.0, -3.0, x, tangent, y], vec![x, y, tangent, 3.0, 0.5]] {
+                    judge(random, report, items, &Input::Item { row: vec![RC, 0, 0, 0, 0, 0], numbers });
+                }
+            }
+        }
+    }
+}
+
+// What the call has to answer.
+
+/// The path that the Rust builds, or the refusal that comes before it is known whether the path fits.
+fn answer(input: &Input) -> Result<Path, u32> {
+    match input {
+        Input::Path { closed, vertices, count } => path_answer(*closed, vertices, *count),
+        Input::Item { row, numbers } => item_answer(row, numbers),
+    }
+}
+
+/// The checks of a vertex list in document 01's order: 1, 2, 4, 12, 3.
+fn path_answer(closed: u32, vertices: &[f32], count: usize) -> Result<Path, u32> {
+    check(count != 0, 1)?;
+    check(count <= MOST_VERTICES, 2)?;
+    check(closed <= 1, 4)?;
+    let vertices = vertices.get(..6 * count).ok_or(12u32)?;
+    check(all_within(vertices), 3)?;
+    Ok(bezier_path(closed, vertices))
+}
+
+/// The checks of one row to be drawn in document 01's order: 4, 5, 1, 2, 12, 3.
+fn item_answer(row: &[u32], numbers: &[f32]) -> Result<Path, u32> {
+    let &[kind, hidden, _, mark, place, count, ..] = row else { return Err(12) };
+    let is_path = kind == SH;
+    check((1..=4).contains(&kind) && hidden <= 1, 4)?;
+    check(if is_path { mark <= 1 } else { mark == 0 && count == 0 }, 4)?;
+    check(kind <= RC, 5)?;
+    check(!is_path || count != 0, 1)?;
+    check(count as usize <= MOST_VERTICES, 2)?;
+    let place = place as usize;
+    let needed = if is_path { 6 * count as usize } else { 5 };
+    let numbers = numbers.get(place..place + needed).ok_or(12u32)?;
+    check(all_within(numbers), 3)?;
+    Ok(if is_path { bezier_path(mark, numbers) } else { rect_path(numbers) })
+}
+
+fn check(holds: bool, refusal: u32) -> Result<(), u32> {
+    if holds { Ok(()) } else { Err(refusal) }
+}
+
+fn all_within(numbers: &[f32]) -> bool {
+    numbers.iter().all(|x| x.is_finite() && x.abs() <= LIMIT)
+}
+
+fn bezier_path(closed: u32, vertices: &[f32]) -> Path {
+    let vertices = vertices.chunks(6).map(|v| BezierVertex {
+        vertex: [v[0], v[1]],
+        in_tangent: [v[2], v[3]],
+        out_tangent: [v[4], v[5]],
+    });
+    source::bezier_path(&BezierPath { closed: closed == 1, vertices: vertices.collect() }).unwrap()
+}
+
+fn rect_path(numbers: &[f32]) -> Path {
+    let item = ShapeItem {
+        position: Some([numbers[0], numbers[1]]),
+        size: Some([numbers[2], numbers[3]]),
+        roundness: Some(numbers[4]),
+    };
+    source::rect_path(&item).unwrap()
+}
+
+// The comparison.
+
+/// All that a call leaves behind. The lists are the buffers and a few places past what is lent.
+#[derive(PartialEq)]
+struct Outcome {
+    refusal: u32,
+    written: [usize; 2],
+    codes: Vec<u8>,
+    numbers: Vec<u32>,
+}
+
+/// Places past the end of each buffer that are not lent.
+const PAST: usize = 4;
+
+impl Outcome {
+    /// Before the call: each place has content of its own, which no answer has.
+    fn before(lengths: [usize; 2]) -> Outcome {
+        Outcome {
+            refusal: u32::MAX,
+            written: [usize::MAX; 2],
+            codes: (0..lengths[0] + PAST).map(|i| 0x80 | i as u8).collect(),
+            numbers: (0..lengths[1] + PAST).map(|i| 0xffc0_0000 + i as u32).collect(),
+        }
+    }
+
+    /// What is to be left behind where this is answered: the answer, if it fits.
+    fn theirs(answer: &Result<Path, u32>, lengths: [usize; 2]) -> Outcome {
+        let mut outcome = Outcome { refusal: 11, written: [0, 0], ..Outcome::before(lengths) };
+        match answer {
+            Err(refusal) => outcome.refusal = *refusal,
+            Ok(path) if path.codes.len() <= lengths[0] && path.numbers.len() <= lengths[1] => {
+                outcome.refusal = 0;
+                outcome.written = [path.codes.len(), path.numbers.len()];
+                outcome.codes[..path.codes.len()].copy_from_slice(&path.codes);
+                for (place, x) in outcome.numbers.iter_mut().zip(&path.numbers) {
+                    *place = x.to_bits();
+                }
+            }
+            Ok(_) => {}
+        }
+        outcome
+    }
+
+    fn ours(input: &Input, lengths: [usize; 2]) -> Outcome {
+        let mut outcome = Outcome::before(lengths);
+        let codes = outcome.codes.as_mut_ptr();
+        let numbers = outcome.numbers.as_mut_ptr().cast();
+        let [codes_written, numbers_written] = &mut outcome.written;
+        let [codes_len, numbers_len] = lengths;
+        outcome.refusal = match input {
+            Input::Path { closed, vertices, count } => unsafe {
+                jengafir_draw_path(
+                    *closed,
+                    vertices.as_ptr(),
+                    vertices.len(),
+                    *count,
+                    codes,
+                    codes_len,
+                    numbers,
+                    numbers_len,
+                    codes_written,
+                    numbers_written,
+                )
+            },
+            Input::Item { row, numbers: items } => unsafe {
+                jengafir_draw_item(
+                    row.as_ptr(),
+                    row.len(),
+                    items.as_ptr(),
+                    items.len(),
+                    codes,
+                    codes_len,
+                    numbers,
+                    numbers_len,
+                    codes_written,
+                    numbers_written,
+                )
+            },
+        };
+        outcome
+    }
+}
+
+fn judge(random: &mut Random, report: &mut Report, outcomes: &mut Outcomes, input: &Input) {
+    let answer = answer(input);
+    let lengths = lengths(random, &answer);
+    let theirs = Outcome::theirs(&answer, lengths);
+    let ours = Outcome::ours(input, lengths);
+    outcomes[theirs.refusal as usize] += 1;
+    report.count(ours == theirs, || {
+        format!("{}, buffers of {lengths:?}: {}", shown_input(input), shown_difference(&ours, &theirs))
+    });
+}
+
+/// The lengths of the buffers: ample, exactly full, one short, or empty.
+fn lengths(random: &mut Random, answer: &Result<Path, u32>) -> [usize; 2] {
+    let [codes, numbers] = match answer {
+        Ok(path) => [path.codes.len(), path.numbers.len()],
+        Err(_) => [random.between(0, 8) as usize, random.between(0, 20) as usize],
+    };
+    match random.between(0, 15) {
+        0 => [codes.saturating_sub(1), numbers],
+        1 => [codes, numbers.saturating_sub(1)],
+        2 => [codes.saturating_sub(1), numbers + 9],
+        3 => [codes + 9, numbers.saturating_sub(1)],
+        4 if random.bits(2) == 0 => [0, 0],
+        5 if random.bits(2) == 0 => [0, numbers],
+        6 if random.bits(2) == 0 => [codes, 0],
+        7..=10 => [codes + random.between(0, 9) as usize, numbers + random.between(0, 9) as usize],
+        _ => [codes, numbers],
+    }
+}
+
+fn shown_input(input: &Input) -> String {
+    match input {
+        Input::Path { closed, vertices, count } => {
+            format!("draw_path closed {closed}, {count} vertices in {}", shown_list(vertices))
+        }
+        Input::Item { row, numbers } => format!("draw_item {row:?} in {}", shown_list(numbers)),
+    }
+}
+
+fn shown_list(list: &[f32]) -> String {
+    let first: Vec<String> = list.iter().take(30).map(|x| format!("{:08x}", x.to_bits())).collect();
+    let rest = if list.len() > 30 { " .." } else { "" };
+    format!("{} numbers ({}{rest})", list.len(), first.join(" "))
+}
+
+fn shown_difference(ours: &Outcome, theirs: &Outcome) -> String {
+    let mut shown = format!("ours {} {:?}, theirs {} {:?}", ours.refusal, ours.written, theirs.refusal, theirs.written);
+    if let Some(i) = (0..ours.codes.len()).find(|&i| ours.codes[i] != theirs.codes[i]) {
+        shown += &format!("; code {i} is {}, not {}", ours.codes[i], theirs.codes[i]);
+    }
+    if let Some(i) = (0..ours.numbers.len()).find(|&i| ours.numbers[i] != theirs.numbers[i]) {
+        shown += &format!("; number {i} is {:08x}, not {:08x}", ours.numbers[i], theirs.numbers[i]);
+    }
+    shown
+}

@@ -1,0 +1,309 @@
+/* Calls the drawing functions of the C interface on known shapes, and compares all that each call leaves behind. */
+#include "jengafir.h"
+
+#include <math.h>
+#include <stdio.h>
+#include <string.h>
+
+#define COUNT(list) (sizeof(list) / sizeof(list)[0])
+
+/* Numbers that the library's limit for shapes lets pass, and the next one. */
+#define LIMIT 1048576.0f
+#define PAST_LIMIT 1048576.125f
+
+/* The buffers, larger than what any call here is lent. */
+static uint8_t codes[1040];
+static float numbers[6200];
+static size_t codes_written, numbers_written;
+
+/* What the buffers hold before a call. No drawing here has such a code or number. */
+#define OLD_CODE 0xee
+#define OLD_NUMBER -77.25f
+
+static int compared = 0;
+static int wrong = 0;
+
+static void prepare(void)
+{
+    for (size_t i = 0; i < COUNT(codes); i++)
+        codes[i] = OLD_CODE;
+    for (size_t i = 0; i < COUNT(numbers); i++)
+        numbers[i] = OLD_NUMBER;
+    codes_written = numbers_written = 99;
+}
+
+static int same_number(float x, float y)
+{
+    return memcmp(&x, &y, sizeof x) == 0;
+}
+
+static int is_left_behind(const uint8_t *cs, size_t n, const float *xs, size_t m)
+{
+    if (codes_written != n || numbers_written != m)
+        return 0;
+    for (size_t i = 0; i < COUNT(codes); i++)
+        if (codes[i] != (i < n ? cs[i] : OLD_CODE))
+            return 0;
+    for (size_t i = 0; i < COUNT(numbers); i++)
+        if (!same_number(numbers[i], i < m ? xs[i] : OLD_NUMBER))
+            return 0;
+    return 1;
+}
+
+/* Holds a call's result, its counts and every place of both buffers against n codes and m numbers. */
+static void expect(const char *call, uint32_t got, uint32_t refusal, const uint8_t *cs, size_t n, const float *xs,
+                   size_t m)
+{
+    compared++;
+    if (got != refusal || !is_left_behind(cs, n, xs, m)) {
+        printf("%s: %u with %zu codes and %zu numbers; not %u with %zu and %zu, or other content\n", call,
+               (unsigned)got, codes_written, numbers_written, (unsigned)refusal, n, m);
+        wrong++;
+    }
+}
+
+static uint32_t draw_path(uint32_t closed, const float *vertices, size_t length, size_t count, size_t codes_len,
+                          size_t numbers_len)
+{
+    prepare();
+    return jengafir_draw_path(closed, vertices, length, count, codes, codes_len, numbers, numbers_len, &codes_written,
+                              &numbers_written);
+}
+
+static uint32_t draw_item(const uint32_t *row, size_t row_len, const float *items, size_t length, size_t codes_len,
+                          size_t numbers_len)
+{
+    prepare();
+    return jengafir_draw_item(row, row_len, items, length, codes, codes_len, numbers, numbers_len, &codes_written,
+                              &numbers_written);
+}
+
+/* Expects a refusal, which leaves no counts and alters no place. */
+static void refused(const char *call, uint32_t got, uint32_t refusal)
+{
+    expect(call, got, refusal, NULL, 0, NULL, 0);
+}
+
+/* Draws into ample buffers, exactly full ones, and ones that are a code or a number short. */
+static void path_drawn(const char *call, uint32_t closed, const float *vertices, size_t count, const uint8_t *cs,
+                       size_t n, const float *xs, size_t m)
+{
+    size_t length = 6 * count;
+    expect(call, draw_path(closed, vertices, length, count, n + 7, m + 7), JENGAFIR_ACCEPTED, cs, n, xs, m);
+    expect(call, draw_path(closed, vertices, length, count, n, m), JENGAFIR_ACCEPTED, cs, n, xs, m);
+    refused(call, draw_path(closed, vertices, length, count, n - 1, m), JENGAFIR_BUFFER_TOO_SMALL);
+    refused(call, draw_path(closed, vertices, length, count, n, m - 1), JENGAFIR_BUFFER_TOO_SMALL);
+    refused(call, draw_path(closed, vertices, length, count, 0, 0), JENGAFIR_BUFFER_TOO_SMALL);
+}
+
+static void item_drawn(const char *call, const uint32_t *row, const float *items, size_t length, const uint8_t *cs,
+                       size_t n, const float *xs, size_t m)
+{
+    expect(call, draw_item(row, 6, items, length, n + 7, m + 7), JENGAFIR_ACCEPTED, cs, n, xs, m);
+    expect(call, draw_item(row, 6, items, length, n, m), JENGAFIR_ACCEPTED, cs, n, xs, m);
+    refused(call, draw_item(row, 6, items, length, n - 1, m), JENGAFIR_BUFFER_TOO_SMALL);
+    refused(call, draw_item(row, 6, items, length, n, m - 1), JENGAFIR_BUFFER_TOO_SMALL);
+    refused(call, draw_item(row, 6, items, length, 0, 0), JENGAFIR_BUFFER_TOO_SMALL);
+}
+
+static const float triangle[] = {0, 0, 0, 0, 0, 0, 3, 0, 0, 0, 0, 0, 3, 4, 0, 0, 0, 0};
+static const uint8_t triangle_codes[] = {JENGAFIR_MOVE, JENGAFIR_LINE, JENGAFIR_LINE, JENGAFIR_LINE, JENGAFIR_CLOSE};
+static const float triangle_numbers[] = {0, 0, 3, 0, 3, 4, 0, 0};
+
+static const uint8_t line_codes[] = {JENGAFIR_MOVE, JENGAFIR_LINE};
+static const uint8_t cubic_codes[] = {JENGAFIR_MOVE, JENGAFIR_CUBIC};
+
+static void test_paths(void)
+{
+    static const float point[] = {5, -6, 1, 1, 1, 1};
+    static const float point_numbers[] = {5, -6, 5, -6};
+    static const float line[] = {0, 0, 0, 0, 0, 0, 3, 4, 0, 0, 0, 0};
+    static const float line_numbers[] = {0, 0, 3, 4};
+    static const float short_tangent[] = {0, 0, 0, 0, 0.0001f, 0, 3, 4, 0, 0, 0, 0};
+    static const float long_tangent[] = {0, 0, 0, 0, 0.0002f, 0, 3, 4, 0, 0, 0, 0};
+    static const float long_numbers[] = {0, 0, 0.0002f, 0, 3, 4, 3, 4};
+    static const float upright_tangent[] = {0, 0, 0, 0, 0, 0, 3, 4, 0, 0.0002f, 0, 0};
+    static const float upright_numbers[] = {0, 0, 0, 0, 3, 4.0002f, 3, 4};
+    /* Control points are rounded: beside so large a coordinate 0.01 is lost. */
+    static const float lost_tangent[] = {LIMIT, 0, 0, 0, 0.01f, 0, 3, -LIMIT, 0, 0.01f, 0, 0};
+    static const float lost_numbers[] = {LIMIT, 0, 3, -LIMIT};
+    static const float curves[] = {1, 2, -1, 0, 1, 0.5f, 4, 8, 0, -2, 0, 2};
+    static const float curves_numbers[] = {1, 2, 2, 2.5f, 4, 6, 4, 8, 4, 10, 0, 2, 1, 2};
+    static const uint8_t curves_codes[] = {JENGAFIR_MOVE, JENGAFIR_CUBIC, JENGAFIR_CUBIC, JENGAFIR_CLOSE};
+
+    path_drawn("closed triangle", 1, triangle, 3, triangle_codes, 5, triangle_numbers, 8);
+    path_drawn("open triangle", 0, triangle, 3, triangle_codes, 3, triangle_numbers, 6);
+    path_drawn("open line", 0, line, 2, line_codes, 2, line_numbers, 4);
+    path_drawn("one vertex", 0, point, 1, line_codes, 2, point_numbers, 4);
+    path_drawn("one vertex, closed", 1, point, 1, line_codes, 2, point_numbers, 4);
+    path_drawn("tangent 0.0001", 0, short_tangent, 2, line_codes, 2, line_numbers, 4);
+    path_drawn("tangent 0.0002", 0, long_tangent, 2, cubic_codes, 2, long_numbers, 8);
+    path_drawn("tangent 0.0002 upright", 0, upright_tangent, 2, cubic_codes, 2, upright_numbers, 8);
+    path_drawn("tangents that are lost", 0, lost_tangent, 2, line_codes, 2, lost_numbers, 4);
+    path_drawn("two curves", 1, curves, 2, curves_codes, 4, curves_numbers, 14);
+}
+
+/* 1,024 vertices pass and 1,025 do not, though all of them are there. */
+static void test_most_vertices(void)
+{
+    static float vertices[6 * 1025];
+    static uint8_t cs[1024];
+    static float xs[2 * 1024];
+    for (size_t i = 0; i < 1025; i++)
+        vertices[6 * i] = (float)i;
+    for (size_t i = 0; i < 1024; i++) {
+        cs[i] = i == 0 ? JENGAFIR_MOVE : JENGAFIR_LINE;
+        xs[2 * i] = (float)i;
+    }
+    path_drawn("1,024 vertices", 0, vertices, 1024, cs, 1024, xs, 2048);
+    refused("1,025 vertices", draw_path(0, vertices, COUNT(vertices), 1025, 1030, 6200), JENGAFIR_TOO_MANY);
+    refused("a huge count", draw_path(0, vertices, COUNT(vertices), SIZE_MAX / 2 + 4, 1030, 6200), JENGAFIR_TOO_MANY);
+}
+
+/* A closed triangle with one number replaced. */
+static uint32_t with_number(size_t place, float x)
+{
+    float vertices[COUNT(triangle)];
+    memcpy(vertices, triangle, sizeof vertices);
+    vertices[place] = x;
+    return draw_path(1, vertices, COUNT(vertices), 3, 40, 40);
+}
+
+static void test_path_refusals(void)
+{
+    static const float at_limit[] = {LIMIT, -LIMIT, 0, 0, 0, 0, 9, 9, 9, 9, 9, NAN};
+    static const float at_limit_numbers[] = {LIMIT, -LIMIT, LIMIT, -LIMIT};
+
+    expect("the limit, and a rest that is not read", draw_path(1, at_limit, 12, 1, 9, 9), JENGAFIR_ACCEPTED,
+           line_codes, 2, at_limit_numbers, 4);
+    refused("no vertices", draw_path(1, triangle, 18, 0, 9, 9), JENGAFIR_EMPTY);
+    refused("closed 2", draw_path(2, triangle, 18, 3, 9, 9), JENGAFIR_UNLISTED);
+    refused("closed 256", draw_path(256, triangle, 18, 3, 9, 9), JENGAFIR_UNLISTED);
+    refused("a short list", draw_path(1, triangle, 17, 3, 9, 9), JENGAFIR_OUT_OF_BOUNDS);
+    refused("past the limit", with_number(0, PAST_LIMIT), JENGAFIR_OUT_OF_RANGE);
+    refused("past the limit below", with_number(17, -PAST_LIMIT), JENGAFIR_OUT_OF_RANGE);
+    refused("an infinity", with_number(9, INFINITY), JENGAFIR_OUT_OF_RANGE);
+    refused("a NaN", with_number(9, NAN), JENGAFIR_OUT_OF_RANGE);
+
+    refused("1 before 4", draw_path(2, triangle, 18, 0, 0, 0), JENGAFIR_EMPTY);
+    refused("2 before 4", draw_path(2, triangle, 18, 1025, 0, 0), JENGAFIR_TOO_MANY);
+    refused("4 before 12", draw_path(2, triangle, 17, 3, 0, 0), JENGAFIR_UNLISTED);
+    refused("12 before 3", draw_path(1, at_limit, 12, 3, 0, 0), JENGAFIR_OUT_OF_BOUNDS);
+    refused("3 before 11", draw_path(1, at_limit, 12, 2, 0, 0), JENGAFIR_OUT_OF_RANGE);
+}
+
+/* Numbers of rows: a rectangle 3 by 4, a rounded one 8 by 4, and a triangle, between numbers that are not finite. */
+static const float items[] = {NAN, 0, 0, -3, -4, 0, 0, 0, 8, 4, 1, 0, 0, 0, 0, 0,
+                              0,   3, 0, 0,  0,  0, 0, 3, 4, 0, 0, 0, 0, NAN};
+#define ITEMS COUNT(items)
+
+static void test_items(void)
+{
+    static const uint32_t rectangle[] = {JENGAFIR_RC, 0, 0, 0, 1, 0, 4};
+    static const float rectangle_numbers[] = {-1.5f, -2, 1.5f, -2, 1.5f, 2, -1.5f, 2};
+    static const uint32_t rounded[] = {JENGAFIR_RC, 1, 4000000000, 0, 6, 0};
+    static const uint8_t rounded_codes[] = {
+        JENGAFIR_MOVE, JENGAFIR_LINE,  JENGAFIR_CUBIC, JENGAFIR_LINE,  JENGAFIR_CUBIC,
+        JENGAFIR_LINE, JENGAFIR_CUBIC, JENGAFIR_LINE,  JENGAFIR_CUBIC, JENGAFIR_CLOSE,
+    };
+    /* 3.55228472 is 3 and 1.55228472 is 1, each with 0.5522848 added. */
+    static const float rounded_numbers[] = {
+        -3, -2, 3, -2, 3.55228472f, -2, 4, -1.55228472f, 4, -1,
+        4, 1, 4, 1.55228472f, 3.55228472f, 2, 3, 2,
+        -3, 2, -3.55228472f, 2, -4, 1.55228472f, -4, 1,
+        -4, -1, -4, -1.55228472f, -3.55228472f, -2, -3, -2,
+    };
+    static const uint32_t path[] = {JENGAFIR_SH, 0, 9, 1, 11, 3};
+    static const uint32_t open_path[] = {JENGAFIR_SH, 1, 0, 0, 11, 3};
+
+    item_drawn("rectangle 3 by 4", rectangle, items, ITEMS, triangle_codes, 5, rectangle_numbers, 8);
+    item_drawn("rounded rectangle", rounded, items, ITEMS, rounded_codes, 10, rounded_numbers, 34);
+    item_drawn("closed path", path, items, 29, triangle_codes, 5, triangle_numbers, 8);
+    item_drawn("open path", open_path, items, 29, triangle_codes, 3, triangle_numbers, 6);
+    expect("a row of seven entries", draw_item(rectangle, 7, items, ITEMS, 9, 9), JENGAFIR_ACCEPTED, triangle_codes, 5,
+           rectangle_numbers, 8);
+}
+
+/* Rectangles whose sides or roundness show how each number is worked out. */
+static void test_rectangles(void)
+{
+    static const uint32_t row[] = {JENGAFIR_RC, 0, 0, 0, 0, 0};
+    static const float plain_numbers[] = {-4, -2, 4, -2, 4, 2, -4, 2};
+    static const float negative[] = {0, 0, 8, 4, -1};
+    static const float least[] = {0, 0, -8, 4, 0x1p-23f};
+    /* Half of the smallest size is no float: rounded with the centre it is -0, and alone it would be lost. */
+    static const float smallest[] = {0, 0, 0x1p-149f, 0x1p-149f, 1};
+    static const float smallest_numbers[] = {-0.0f, -0.0f, 0x1p-149f, -0.0f, 0x1p-149f, 0x1p-149f, -0.0f, 0x1p-149f};
+    /* The right side is left + width, which is not the centre and half the width. */
+    static const float uneven[] = {1, 1, 0x1.8p-23f, 0x1.8p-23f, 0};
+    static const float uneven_numbers[] = {0x1.fffffcp-1f, 0x1.fffffcp-1f, 1, 0x1.fffffcp-1f,
+                                           1,              1,              0x1.fffffcp-1f, 1};
+
+    item_drawn("roundness -1", row, negative, 5, triangle_codes, 5, plain_numbers, 8);
+    item_drawn("roundness 2^-23", row, least, 5, triangle_codes, 5, plain_numbers, 8);
+    item_drawn("the smallest size", row, smallest, 5, triangle_codes, 5, smallest_numbers, 8);
+    item_drawn("uneven sides", row, uneven, 5, triangle_codes, 5, uneven_numbers, 8);
+}
+
+typedef struct {
+    const char *call;
+    uint32_t row[6];
+    uint32_t refusal;
+} RefusedRow;
+
+static const RefusedRow refused_rows[] = {
+    {"kind 0", {0, 0, 0, 0, 0, 0}, JENGAFIR_UNLISTED},
+    {"kind 5", {5, 0, 0, 0, 0, 0}, JENGAFIR_UNLISTED},
+    {"kind 14", {14, 0, 0, 0, 0, 0}, JENGAFIR_UNLISTED},
+    {"kind 257", {257, 0, 0, 0, 11, 3}, JENGAFIR_UNLISTED},
+    {"hidden 2", {JENGAFIR_RC, 2, 0, 0, 0, 0}, JENGAFIR_UNLISTED},
+    {"mark 2 of a path", {JENGAFIR_SH, 0, 0, 2, 11, 3}, JENGAFIR_UNLISTED},
+    {"mark 1 of a rectangle", {JENGAFIR_RC, 0, 0, 1, 0, 0}, JENGAFIR_UNLISTED},
+    {"count 1 of a rectangle", {JENGAFIR_RC, 0, 0, 0, 0, 1}, JENGAFIR_UNLISTED},
+    {"ellipse", {JENGAFIR_EL, 0, 0, 0, 0, 0}, JENGAFIR_UNSUPPORTED},
+    {"polystar", {JENGAFIR_SR, 1, 0, 0, 99, 0}, JENGAFIR_UNSUPPORTED},
+    {"no vertices", {JENGAFIR_SH, 0, 0, 1, 11, 0}, JENGAFIR_EMPTY},
+    {"1,025 vertices", {JENGAFIR_SH, 0, 0, 1, 11, 1025}, JENGAFIR_TOO_MANY},
+    {"path past the end", {JENGAFIR_SH, 0, 0, 1, 13, 3}, JENGAFIR_OUT_OF_BOUNDS},
+    {"rectangle past the end", {JENGAFIR_RC, 0, 0, 0, ITEMS - 4, 0}, JENGAFIR_OUT_OF_BOUNDS},
+    {"a place far off", {JENGAFIR_RC, 0, 0, 0, UINT32_MAX, 0}, JENGAFIR_OUT_OF_BOUNDS},
+    {"a NaN", {JENGAFIR_RC, 0, 0, 0, ITEMS - 5, 0}, JENGAFIR_OUT_OF_RANGE},
+    {"4 before 5", {JENGAFIR_EL, 0, 0, 1, 0, 0}, JENGAFIR_UNLISTED},
+    {"5 before 12", {JENGAFIR_EL, 0, 0, 0, 99, 0}, JENGAFIR_UNSUPPORTED},
+    {"4 before 1", {JENGAFIR_SH, 2, 0, 1, 11, 0}, JENGAFIR_UNLISTED},
+    {"4 before 1, by the mark", {JENGAFIR_SH, 0, 0, 2, 11, 0}, JENGAFIR_UNLISTED},
+    {"1 before 12", {JENGAFIR_SH, 0, 0, 1, 99, 0}, JENGAFIR_EMPTY},
+    {"4 before 2", {JENGAFIR_SH, 0, 0, 2, 11, 1025}, JENGAFIR_UNLISTED},
+    {"2 before 12", {JENGAFIR_SH, 0, 0, 1, 99, 1025}, JENGAFIR_TOO_MANY},
+};
+
+static void test_row_refusals(void)
+{
+    static const uint32_t rectangle[] = {JENGAFIR_RC, 0, 0, 0, 0, 0};
+    static const uint32_t unlisted[] = {0, 2, 0, 2, 0, 0};
+
+    for (size_t i = 0; i < COUNT(refused_rows); i++) {
+        RefusedRow r = refused_rows[i];
+        refused(r.call, draw_item(r.row, 6, items, ITEMS, 40, 40), r.refusal);
+        refused(r.call, draw_item(r.row, 6, items, ITEMS, 0, 0), r.refusal);
+    }
+    refused("a row of five entries", draw_item(rectangle, 5, items, ITEMS, 40, 40), JENGAFIR_OUT_OF_BOUNDS);
+    refused("a short row before 4", draw_item(unlisted, 5, items, ITEMS, 40, 40), JENGAFIR_OUT_OF_BOUNDS);
+    refused("a row of no entries", draw_item(unlisted, 0, items, ITEMS, 40, 40), JENGAFIR_OUT_OF_BOUNDS);
+}
+
+int main(void)
+{
+    test_paths();
+    test_most_vertices();
+    test_path_refusals();
+    test_items();
+    test_rectangles();
+    test_row_refusals();
+    if (wrong != 0) {
+        printf("%d of %d wrong\n", wrong, compared);
+        return 1;
+    }
+    printf("ok %d\n", compared);
+    return 0;
+}
