@@ -79,12 +79,11 @@ closes l n k e h =
 -- ---- the count, as the code meets it: a premise for each test and for each call's result, so that `search` finds them all
 
 module _ (cs : List PathCommand) (k n sum : ℕ) (c : Counting cs k sum) (e : n ≡ length cs) where
-  pub sum-fits : (s : ℕ) (x : PathCommand) → k < n → x ≡ getD cs k Close → s ≡ length (coordinatesOf x) → length cs ≤ 1026 → Fits w64 (sum + s)
-  sum-fits s x h p q few =
-      record { fits = omega (arith, q, ap (λ (y : PathCommand). length (coordinatesOf y)) p, count-room cs k sum c (rw e at h), numbers-few cs) }
+  pub sum-fits : (s : ℕ) → k < n → s ≡ length (coordinatesOf (getD cs k Close)) → length cs ≤ 1026 → Fits w64 (sum + s)
+  sum-fits s h q few = record { fits = omega (arith, q, count-room cs k sum c (rw e at h), numbers-few cs) }
 
-  pub sum-turn : (s : ℕ) (x : PathCommand) → k < n → x ≡ getD cs k Close → s ≡ length (coordinatesOf x) → Counting cs (k + 1) (sum + s)
-  sum-turn s x h p q = rw (q, p) (count-more cs k sum c (rw e at h))
+  pub sum-turn : (s : ℕ) → k < n → s ≡ length (coordinatesOf (getD cs k Close)) → Counting cs (k + 1) (sum + s)
+  sum-turn s h q = rw q (count-more cs k sum c (rw e at h))
 
   pub sum-end : n ≤ k → sum ≡ length (numbersOf cs)
   sum-end h = count-end cs k sum c (rw e at h)

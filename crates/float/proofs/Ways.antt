@@ -3,9 +3,9 @@ use mathlib.Core.Path.{_≡_, refl, sym, ap, _∙_, subst}
 use Prim.Native.Nat.{ℕ, zero, suc, _+_, _-_, _*_, _/_, _%_, _^_, _≤_, _<_}
 use native.Mathlib.Nat.{le-antisymm}
 use native.Mathlib.Omega.{arith}
-use mathlib.Core.Bool.{Bool, true, false, not, cond}
+use mathlib.Core.Bool.{Bool, true, false, not, _&&_, cond}
 use lib.Dec.{T, leb}
-use lib.Ieee.{Float, nan, inf, fin, binary32, units, lt, le, ne, eq, fits, isNan, ofBits, toBits, nanBits}
+use lib.Ieee.{Float, nan, inf, fin, binary32, units, neg, lt, le, ne, eq, fits, isNan, ofBits, toBits, nanBits}
 use lib.Ieee.Bits.{ofBits-toBits, toBits-lt, is-false}
 use lib.Ieee.Exact.{HasValue}
 use lib.Ieee.Scale.{finite}
@@ -15,6 +15,7 @@ use Rattle.ieee.specs.Limit.{within}
 use Rattle.ieee.specs.Pattern.{withSign, dropsOf, digitsOf, infinity}
 use Rattle.ieee.proofs.Value.{value-finite}
 use Rattle.ieee.proofs.Pattern.{pattern-ok, write-finite, write-inf, read-value, read-inf, read-number, abs-pattern, is-nan, is-number}
+use Rattle.ieee.proofs.Limits.{within-both}
 use Rattle.float.specs.declared.Parts.{Parts}
 use Rattle.float.specs.Parts.{PartsOf}
 
@@ -150,7 +151,10 @@ clamp-stay lo hi x y e h = at-most y h ∙ ap (atMost hi) e
     at-most y h = unfold atMost in rw h
 
 -- ---- is_within
-pub within-is : (limit x a : Float) → a ≡ abs x → le a limit ≡ within limit x
-within-is limit x a e = ap (λ (y : Float). le y limit) e
+pub within-low : (limit x : Float) → le x limit ≡ true → le (neg limit) x ≡ within limit x
+within-low limit x h = sym (within-both x limit ∙ ap (λ (b : Bool). b && le (neg limit) x) h)
 
-pub ruleset ways = (number, pattern-fits, split-nan, split-inf, split-finite, ok-minus, ok-plus, signed-minus, signed-plus, encode-finite, encode-inf, abs-nan, abs-ok, abs-number, min-first, min-beside-nan, min-second, max-first, max-beside-nan, max-second, at-least-low, at-least-stay, clamp-high, clamp-stay, within-is)
+pub within-not : (limit x : Float) → le x limit ≡ false → false ≡ within limit x
+within-not limit x h = sym (within-both x limit ∙ ap (λ (b : Bool). b && le (neg limit) x) h)
+
+pub ruleset ways = (number, pattern-fits, split-nan, split-inf, split-finite, ok-minus, ok-plus, signed-minus, signed-plus, encode-finite, encode-inf, abs-nan, abs-ok, abs-number, min-first, min-beside-nan, min-second, max-first, max-beside-nan, max-second, at-least-low, at-least-stay, clamp-high, clamp-stay, within-low, within-not)

@@ -138,5 +138,5 @@ pub fn clamp(x: f32, lo: f32, hi: f32) -> f32
 pub fn is_within(x: f32, limit: f32) -> bool
     ensures { λ r. ⌜ r ≡ within limit x ⌝ }
 {
-    abs(x) <= limit
+    if x <= limit { -limit <= x } else { false }
 }

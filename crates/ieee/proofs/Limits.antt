@@ -1,20 +1,21 @@
 -- Tests of |x| ≤ c on a grid, against a constant c = u / v that is not multiplied: a limit that no number of the grid passes (`within`), and a constant finer than the grid,
--- against which only a zero passes (`small-is-zero`); the latter also without the absolute value (`twin-le-small`). Assumes nothing.
+-- against which only a zero passes (`small-is-zero`); the latter also without the absolute value (`twin-le-small`). And that |x| ≤ c, of any x and c, is -c ≤ x ≤ c
+-- (`within-both`). Assumes nothing.
 use mathlib.Core.Path.{_≡_, refl, sym, ap, _∙_, subst}
 use Prim.Native.Nat.{ℕ, zero, suc, _+_, _*_, _^_, _≤_, _<_}
 use native.Mathlib.Nat.{le-trans, le-of-eq, lt-irrefl, zero-lt-suc, zero-mul, suc-mul, mul-comm, mul-assoc, mul-right-comm, mul-le-mul-right, mul-pos}
 use native.Mathlib.Omega.{arith}
-use mathlib.Core.Bool.{Bool, true, false, _||_}
+use mathlib.Core.Bool.{Bool, true, false, not, _&&_, _||_}
 use lib.Dec.{T, eqb, eqb→eq, eqb·suc-zero}
 use lib.Pow.{pow-add, pow-pos}
-use lib.Ieee.{Float, nan, inf, fin, up, down, le, below, level}
-use lib.Ieee.Fits.{up-pos, down-pos}
+use lib.Ieee.{Float, nan, inf, fin, up, down, neg, le, below, level}
+use lib.Ieee.Fits.{up-pos, down-pos, and-i, and-l, and-r}
 use lib.Ieee.Exact.{HasValue}
 use lib.Ieee.Order.{le-of-values}
 use Rattle.ieee.specs.Sign.{abs, isZero}
 use Rattle.ieee.specs.Grid.{scale, On, Twin}
 use Rattle.ieee.proofs.Tests.{same-test, eqb-mul}
-use Rattle.ieee.proofs.Signed.{test→Le, Le→test}
+use Rattle.ieee.proofs.Signed.{Le, test→Le, Le→test}
 use Rattle.ieee.proofs.Value.{rescale, abs-val, scale-val}
 use Rattle.ieee.proofs.Comparison.{le-at}
 use Rattle.ieee.proofs.Grid.{scale-on}
@@ -88,3 +89,44 @@ twin-small k q b x x' c u v X pv w h =
     ∙ small-is-zero q (b + k) (scale k x) c u v (scale-on k q b x (X .grid)) pv w h
     ∙ isZero-scale k x
     ∙ sym (small-is-zero q b x c u v (X .grid) pv w h)
+
+-- ---- |x| ≤ c by two comparisons, whatever x and c are
+-- a ≤ ±b is ±a ≤ ±b and -±b ≤ ±a
+above : (s t : Bool) (a b : ℕ) → Le false a t b → Le s a t b
+above false t a b h = h
+above true false a b h = omega arith
+above true true a b h = omega arith
+
+under : (s t : Bool) (a b : ℕ) → Le false a t b → Le (not t) b s a
+under false false a b h = omega arith
+under false true a b h = omega arith
+under true false a b h = omega arith
+under true true a b h = omega arith
+
+between : (s t : Bool) (a b : ℕ) → Le s a t b → Le (not t) b s a → Le false a t b
+between false t a b h k = h
+between true false a b h k = omega arith
+between true true a b h k = omega arith
+
+both : (s t : Bool) (a b : ℕ) → (below false a t b || level false a t b) ≡ ((below s a t b || level s a t b) && (below (not t) b s a || level (not t) b s a))
+both s t a b =
+    let p = below s a t b || level s a t b in
+    let q = below (not t) b s a || level (not t) b s a in
+    same-test (below false a t b || level false a t b) (p && q)
+    (λ h. let l = test→Le false a t b h in and-i p q (Le→test s a t b (above s t a b l)) (Le→test (not t) b s a (under s t a b l)))
+    (λ h. Le→test false a t b (between s t a b (test→Le s a t b (and-l p q h)) (test→Le (not t) b s a (and-r p q h))))
+
+pub within-both : (x c : Float) → le (abs x) c ≡ (le x c && le (neg c) x)
+unfolding neg le
+within-both nan c = refl
+within-both (inf s) nan = refl
+within-both (inf false) (inf false) = refl
+within-both (inf false) (inf true) = refl
+within-both (inf true) (inf false) = refl
+within-both (inf true) (inf true) = refl
+within-both (inf false) (fin t n d) = refl
+within-both (inf true) (fin t n d) = refl
+within-both (fin s m e) nan = refl
+within-both (fin s m e) (inf false) = refl
+within-both (fin s m e) (inf true) = refl
+within-both (fin s m e) (fin t n d) = both s t (m * up e * down d) (n * up d * down e)

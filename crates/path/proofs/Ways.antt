@@ -6,16 +6,17 @@ use mathlib.Core.List.{List}
 use Prim.Native.Nat.{ℕ, suc, _+_, _-_, _*_, _≤_, _<_}
 use native.Mathlib.Omega.{arith}
 use lib.ListN.{length, getD}
-use lib.Ieee.{Float, add, binary32}
+use lib.Ieee.{Float}
 use lib.Dec.{eqb}
 use borrow.Author.Tests.{eq-eqb, ne-eqb}
 use Rattle.command.specs.declared.PathCommand.{PathCommand}
 use Rattle.command.specs.declared.PathCommand.the-variants.{Move, Line, Cubic, Close}
 use Rattle.path.specs.declared.BezierVertex.{BezierVertex}
-use Rattle.path.specs.Path.{approxEq, vertexAt, verticesOf, bezierSegment, bezierPath, bezierCount, Sound}
+use Rattle.command.specs.Commands.{coordinatesOf}
+use Rattle.path.specs.Path.{outX, outY, inX, inY, isLine, vertexAt, verticesOf, bezierSegment, bezierPath, bezierCount, Sound}
 use Rattle.path.proofs.Paths.{path-start, path-line, path-inner, path-closing, path-past}
 
--- ---- near, approx_eq_point
+-- ---- approx_eq_point and is_line
 
 pub and-both : (p q a b : Bool) → p ≡ a → p ≡ true → q ≡ b → q ≡ (a && b)
 and-both p q a b e h f = rw (← e, h) f
@@ -23,25 +24,21 @@ and-both p q a b e h f = rw (← e, h) f
 pub and-not : (p a b : Bool) → p ≡ a → p ≡ false → false ≡ (a && b)
 and-not p a b e h = rw (← e, h)
 
--- ---- bezier_segment
-module _ (a b : BezierVertex) (p : Bool)
-    (is : p ≡ (approxEq (a .x) (add binary32 (a .x) (a .ox)) && approxEq (a .y) (add binary32 (a .y) (a .oy)))) where
-  abbrev cubic : PathCommand
-  cubic =
-      Cubic (add binary32 (a .x) (a .ox)) (add binary32 (a .y) (a .oy)) (add binary32 (b .x) (b .ix)) (add binary32 (b .y) (b .iy)) (b .x) (b .y)
-
-  pub cubic-first : p ≡ false → cubic ≡ bezierSegment a b
+-- ---- bezier_segment and segment_size
+module _ (a b : BezierVertex) (t : Bool) (is : t ≡ isLine a b) where
+  pub segment-line : t ≡ true → Line (b .x) (b .y) ≡ bezierSegment a b
   unfolding bezierSegment
-  cubic-first h = rw (← is, h)
+  segment-line h = rw (← is, h)
 
-  module _ (q : Bool) (is' : q ≡ (approxEq (add binary32 (b .x) (b .ix)) (b .x) && approxEq (add binary32 (b .y) (b .iy)) (b .y))) (h : p ≡ true) where
-    pub line-both : q ≡ true → Line (b .x) (b .y) ≡ bezierSegment a b
-    unfolding bezierSegment
-    line-both g = rw (← is, h, ← is', g)
+  pub segment-cubic : t ≡ false → Cubic (outX a) (outY a) (inX b) (inY b) (b .x) (b .y) ≡ bezierSegment a b
+  unfolding bezierSegment
+  segment-cubic h = rw (← is, h)
 
-    pub cubic-second : q ≡ false → cubic ≡ bezierSegment a b
-    unfolding bezierSegment
-    cubic-second g = rw (← is, h, ← is', g)
+  pub size-line : t ≡ true → 2 ≡ length (coordinatesOf (bezierSegment a b))
+  size-line h = ap (λ (c : PathCommand). length (coordinatesOf c)) (segment-line h)
+
+  pub size-cubic : t ≡ false → 6 ≡ length (coordinatesOf (bezierSegment a b))
+  size-cubic h = ap (λ (c : PathCommand). length (coordinatesOf c)) (segment-cubic h)
 
 -- ---- bezier_command
 module _ (c : Bool) (n : ℕ) (v : List Float) (k : ℕ) (s : Sound v n) where
@@ -64,6 +61,30 @@ module _ (c : Bool) (n : ℕ) (v : List Float) (k : ℕ) (s : Sound v n) where
       pub at-past : n ≤ k → (k ≡ n → ⊥) → Close ≡ getD (bezierPath c (verticesOf n v)) k Close
       at-past h g = sym (path-past c n v k (omega (arith, s .some)) (omega arith))
 
+-- ---- bezier_size
+module _ (c : Bool) (n : ℕ) (v : List Float) (k : ℕ) (s : Sound v n) where
+  abbrev size : PathCommand → ℕ
+  size x = length (coordinatesOf x)
+
+  pub size-move : k ≡ 0 → 2 ≡ length (coordinatesOf (getD (bezierPath c (verticesOf n v)) k Close))
+  size-move h = ap size (at-move c n v k s (vertexAt v 0) refl h)
+
+  module _ (p : k ≡ 0 → ⊥) (inside : k < length (bezierPath c (verticesOf n v))) where
+    pub size-one : n ≡ 1 → 2 ≡ length (coordinatesOf (getD (bezierPath c (verticesOf n v)) k Close))
+    size-one h = ap size (at-line c n v k s p inside (vertexAt v 0) refl h)
+
+    pub size-inner : (a b : BezierVertex) (m : ℕ) → a ≡ vertexAt v (k - 1) → b ≡ vertexAt v k → m ≡ length (coordinatesOf (bezierSegment a b)) → k < n
+        → m ≡ length (coordinatesOf (getD (bezierPath c (verticesOf n v)) k Close))
+    size-inner a b m e f g h = g ∙ ap size (at-inner c n v k s p inside a b (bezierSegment a b) e f refl h)
+
+    module _ (m : n ≡ 1 → ⊥) where
+      pub size-back : (a b : BezierVertex) (z : ℕ) → a ≡ vertexAt v (n - 1) → b ≡ vertexAt v 0 → z ≡ length (coordinatesOf (bezierSegment a b)) → n ≤ k → k ≤ n
+          → z ≡ length (coordinatesOf (getD (bezierPath c (verticesOf n v)) k Close))
+      size-back a b z e f g h l = g ∙ ap size (at-back c n v k s p inside m a b (bezierSegment a b) e f refl (omega arith))
+
+      pub size-past : n < k → 0 ≡ length (coordinatesOf (getD (bezierPath c (verticesOf n v)) k Close))
+      size-past h = ap size (at-past c n v k s p inside m (omega arith) (λ e. omega arith))
+
 -- ---- bezier_count
 module _ (closed count : ℕ) where
   pub count-one : count ≡ 1 → 2 ≡ bezierCount closed count
@@ -78,9 +99,10 @@ module _ (closed count : ℕ) where
 pub ruleset ways = (
   and-both,
   and-not,
-  cubic-first,
-  line-both,
-  cubic-second,
+  segment-line,
+  segment-cubic,
+  size-line,
+  size-cubic,
   at-move,
   at-line,
   at-inner,
@@ -90,3 +112,5 @@ pub ruleset ways = (
   count-closed,
   count-open,
 )
+
+pub ruleset sizes = (size-move, size-one, size-inner, size-back, size-past)

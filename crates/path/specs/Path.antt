@@ -34,18 +34,30 @@ linearTolerance = ofBits binary32 0x38d1b717
 abbrev pub approxEq : Float → Float → Bool
 approxEq a b = within linearTolerance (sub binary32 a b)
 
--- both control points, (cx, cy) and (dx, dy), are within 1e-4 of their ends in each axis
-abbrev pub isLinearSegment : BezierVertex → Float → Float → Float → Float → BezierVertex → Bool
-isLinearSegment a cx cy dx dy b = (approxEq (a .x) cx && approxEq (a .y) cy) && (approxEq dx (b .x) && approxEq dy (b .y))
+-- two points are within 1e-4 of each other in each axis
+abbrev pub approxEqPoint : Float → Float → Float → Float → Bool
+approxEqPoint ax ay bx by = approxEq ax bx && approxEq ay by
 
--- the segment between two vertices: a line, or a cubic whose control points are the vertices plus their tangents
+-- the control points of the segment from a to b are a plus its out-tangent and b plus its in-tangent
+abbrev pub outX : BezierVertex → Float
+outX a = add binary32 (a .x) (a .ox)
+
+abbrev pub outY : BezierVertex → Float
+outY a = add binary32 (a .y) (a .oy)
+
+abbrev pub inX : BezierVertex → Float
+inX b = add binary32 (b .x) (b .ix)
+
+abbrev pub inY : BezierVertex → Float
+inY b = add binary32 (b .y) (b .iy)
+
+-- both control points are near their ends, `is_linear_segment`
+abbrev pub isLine : BezierVertex → BezierVertex → Bool
+isLine a b = approxEqPoint (a .x) (a .y) (outX a) (outY a) && approxEqPoint (inX b) (inY b) (b .x) (b .y)
+
+-- the segment between two vertices: a line, or a cubic
 unfoldable pub bezierSegment : BezierVertex → BezierVertex → PathCommand
-bezierSegment a b =
-    let cx = add binary32 (a .x) (a .ox) in
-    let cy = add binary32 (a .y) (a .oy) in
-    let dx = add binary32 (b .x) (b .ix) in
-    let dy = add binary32 (b .y) (b .iy) in
-    cond (isLinearSegment a cx cy dx dy b) (Line (b .x) (b .y)) (Cubic cx cy dx dy (b .x) (b .y))
+bezierSegment a b = cond (isLine a b) (Line (b .x) (b .y)) (Cubic (outX a) (outY a) (inX b) (inY b) (b .x) (b .y))
 
 -- a segment per neighbour pair, from a on
 unfoldable pub bezierSegments : BezierVertex → List BezierVertex → List PathCommand

@@ -5,7 +5,8 @@ ghost use mathlib.Core.Bool.{Bool, _&&_};
 ghost use Prim.Native.Nat.{_+_, _*_, _<_, _≤_};
 ghost use lib.ListN.{length, getD};
 ghost use Rattle.command.specs.declared.PathCommand.the-variants.{Close};
-ghost use Rattle.path.specs.Path.{vertexAt, verticesOf, approxEq, bezierSegment, bezierPath, bezierCount, Sound};
+ghost use Rattle.command.specs.Commands.{coordinatesOf};
+ghost use Rattle.path.specs.Path.{vertexAt, verticesOf, approxEq, isLine, bezierSegment, bezierPath, bezierCount, Sound};
 
 // A vertex with its in-tangent and its out-tangent, both relative to it.
 pub struct BezierVertex {
@@ -51,20 +52,33 @@ fn vertex_at(vertices: &[f32], k: usize) -> BezierVertex
     }
 }
 
-// The segment between two vertices: a line if both control points are near their ends.
+// Whether the segment between two vertices is a line: both control points are near their ends.
+fn is_line(a: BezierVertex, b: BezierVertex) -> bool
+    ensures { λ r. ⌜ r ≡ isLine a b ⌝ }
+{
+    if approx_eq_point(a.x, a.y, a.x + a.ox, a.y + a.oy) {
+        approx_eq_point(b.x + b.ix, b.y + b.iy, b.x, b.y)
+    } else {
+        false
+    }
+}
+
+// The segment between two vertices.
 fn bezier_segment(a: BezierVertex, b: BezierVertex) -> PathCommand
     ensures { λ r. ⌜ r ≡ bezierSegment a b ⌝ }
 {
-    let cx = a.x + a.ox;
-    let cy = a.y + a.oy;
-    let dx = b.x + b.ix;
-    let dy = b.y + b.iy;
-    if approx_eq_point(a.x, a.y, cx, cy) {
-        if approx_eq_point(dx, dy, b.x, b.y) {
-            return PathCommand::Line(b.x, b.y);
-        }
+    if is_line(a, b) {
+        PathCommand::Line(b.x, b.y)
+    } else {
+        PathCommand::Cubic(a.x + a.ox, a.y + a.oy, b.x + b.ix, b.y + b.iy, b.x, b.y)
     }
-    PathCommand::Cubic(cx, cy, dx, dy, b.x, b.y)
+}
+
+// How many numbers the segment between two vertices has.
+fn segment_size(a: BezierVertex, b: BezierVertex) -> usize
+    ensures { λ r. ⌜ r ≡ length (coordinatesOf (bezierSegment a b)) ⌝ }
+{
+    if is_line(a, b) { 2 } else { 6 }
 }
 
 // The command at place k of the path of the first `count` vertices, open or closed.
@@ -88,6 +102,27 @@ pub fn bezier_command(vertices: &[f32], count: usize, k: usize) -> PathCommand
         return bezier_segment(vertex_at(vertices, count - 1), vertex_at(vertices, 0));
     }
     PathCommand::Close
+}
+
+// How many numbers that command has.
+pub fn bezier_size(vertices: &[f32], count: usize, k: usize) -> usize
+    requires { ⌜ Sound (now vertices) count ⌝ }
+    ensures { λ r. ⌜ ((c : Bool) → k < length (bezierPath c (verticesOf count (now (vertices .entry))))
+        → r ≡ length (coordinatesOf (getD (bezierPath c (verticesOf count (now (vertices .entry)))) k Close))) ⌝ }
+{
+    if k == 0 {
+        return 2;
+    }
+    if count == 1 {
+        return 2;
+    }
+    if k < count {
+        return segment_size(vertex_at(vertices, k - 1), vertex_at(vertices, k));
+    }
+    if count < k {
+        return 0;
+    }
+    segment_size(vertex_at(vertices, count - 1), vertex_at(vertices, 0))
 }
 
 // How many commands the path has.

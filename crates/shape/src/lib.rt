@@ -10,7 +10,7 @@ ghost use lib.Ieee.{Float};
 ghost use lib.ListN.{length, getD};
 ghost use lib.Seq.{sets};
 ghost use Rattle.command.specs.declared.PathCommand.the-variants.{Close};
-ghost use Rattle.command.specs.Commands.{codesOf, numbersOf};
+ghost use Rattle.command.specs.Commands.{coordinatesOf, codesOf, numbersOf};
 ghost use Rattle.command.specs.Outcomes.{Filled, Outcome, drawn, fitted, drawnNumber, drawnCodes, drawnNumbers};
 ghost use Rattle.shape.specs.Shape.{shapeCommands, Fit};
 
@@ -30,6 +30,18 @@ fn command_of(shape: Shape, vertices: &[f32], k: usize) -> PathCommand
     match shape {
         Shape::Path(_, count) => path::bezier_command(vertices, count, k),
         Shape::Rect(c) => rect::rect_command(c, k),
+    }
+}
+
+// How many numbers that command has.
+fn size_of(shape: Shape, vertices: &[f32], k: usize) -> usize
+    requires { ⌜ Fit shape (now vertices) ⌝ }
+    requires { ⌜ k < length (shapeCommands shape (now vertices)) ⌝ }
+    ensures { λ r. ⌜ r ≡ length (coordinatesOf (getD (shapeCommands shape (now (vertices .entry))) k Close)) ⌝ }
+{
+    match shape {
+        Shape::Path(_, count) => path::bezier_size(vertices, count, k),
+        Shape::Rect(c) => command::size(rect::rect_command(c, k)),
     }
 }
 
@@ -53,7 +65,7 @@ pub fn numbers_of(shape: Shape, vertices: &[f32]) -> usize
     let mut sum: usize = 0;
     let mut k: usize = 0;
     while k < n {
-        sum += command::size(command_of(shape, vertices, k));
+        sum += size_of(shape, vertices, k);
         k += 1;
     }
     sum
@@ -87,12 +99,23 @@ pub fn write_at(
     at
 }
 
-// Whether a shape's numbers fit into this many places. They are counted only where six a command might not fit.
+// At least as many numbers as a shape has, without a look at its vertices.
+fn enough_for(shape: Shape, vertices: &[f32]) -> usize
+    requires { ⌜ Fit shape (now vertices) ⌝ }
+    ensures { λ r. ⌜ length (numbersOf (shapeCommands shape (now (vertices .entry)))) ≤ r ⌝ }
+{
+    match shape {
+        Shape::Path(_, count) => 6 * count + 2,
+        Shape::Rect(c) => 6 * rect::rect_count(c),
+    }
+}
+
+// Whether a shape's numbers fit into this many places. They are counted only where they might not.
 fn numbers_fit(shape: Shape, vertices: &[f32], room: usize) -> bool
     requires { ⌜ Fit shape (now vertices) ⌝ }
     ensures { λ r. ⌜ r ≡ leb (length (numbersOf (shapeCommands shape (now (vertices .entry))))) room ⌝ }
 {
-    if 6 * count_of(shape, vertices) <= room {
+    if enough_for(shape, vertices) <= room {
         true
     } else {
         numbers_of(shape, vertices) <= room

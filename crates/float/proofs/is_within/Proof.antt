@@ -4,11 +4,11 @@ use borrow.Author.Needs.{needs}
 use Rattle.float.proofs.is_within.Statement.{statement}
 use Rattle.float.proofs.is_within.Tie as tie
 
-abs-requires : tie.Need-abs-requires
-abs-requires c κs = search needs
-
 returns : tie.Need-returns
 returns c = search (needs, ways)
 
+returns-2 : tie.Need-returns-2
+returns-2 c = search (needs, ways)
+
 pub is-within-spec : {M : Type 1} → statement M
-is-within-spec = tie.close (tie.spec abs-requires returns)
+is-within-spec = tie.close (tie.spec returns returns-2)

@@ -4,11 +4,8 @@ use borrow.Author.Needs.{needs}
 use Rattle.path.proofs.bezier_segment.Statement.{statement}
 use Rattle.path.proofs.bezier_segment.Tie as tie
 
-approx-eq-point-requires : tie.Need-approx-eq-point-requires
-approx-eq-point-requires c κs = search needs
-
-approx-eq-point-requires-2 : tie.Need-approx-eq-point-requires-2
-approx-eq-point-requires-2 c κs = search needs
+is-line-requires : tie.Need-is-line-requires
+is-line-requires c κs = search needs
 
 returns : tie.Need-returns
 returns c = search (needs, ways)
@@ -16,9 +13,5 @@ returns c = search (needs, ways)
 returns-2 : tie.Need-returns-2
 returns-2 c = search (needs, ways)
 
-returns-3 : tie.Need-returns-3
-returns-3 c = search (needs, ways)
-
 pub bezier-segment-spec : {M : Type 1} → statement M
-bezier-segment-spec =
-    tie.close (tie.spec approx-eq-point-requires approx-eq-point-requires-2 returns returns-2 returns-3)
+bezier-segment-spec = tie.close (tie.spec is-line-requires returns returns-2)

@@ -1,10 +1,10 @@
 -- `shape::numbers_of` meets its contract. Assumes nothing.
+use Rattle.shape.proofs.Ways.{ways}
+use borrow.Author.Needs.{needs}
 use mathlib.Core.Path.{_≡_}
 use Prim.Native.Nat.{_-_}
 use lib.ListN.{length}
-use borrow.Author.Needs.{needs}
 use Rattle.command.proofs.Passes.{Counting}
-use Rattle.shape.proofs.Ways.{ways}
 use Rattle.shape.specs.Shape.{shapeCommands}
 use Rattle.shape.proofs.numbers_of.Statement.{statement}
 use Rattle.shape.proofs.numbers_of.Tie as tie
@@ -21,11 +21,8 @@ count-of-requires c κs = search (needs, ways)
 loop-holds : tie.Need-loop-holds Inv-loop μ-loop
 loop-holds c = search (needs, ways)
 
-command-of-requires : tie.Need-command-of-requires Inv-loop μ-loop
-command-of-requires c κs = search (needs, ways)
-
-size-requires : tie.Need-size-requires Inv-loop μ-loop
-size-requires c κs = search (needs, ways)
+size-of-requires : tie.Need-size-of-requires Inv-loop μ-loop
+size-of-requires c κs = search (needs, ways)
 
 add-sum : tie.Need-add-sum Inv-loop μ-loop
 add-sum c = search (needs, ways)
@@ -50,8 +47,7 @@ numbers-of-spec =
     μ-loop
     count-of-requires
     loop-holds
-    command-of-requires
-    size-requires
+    size-of-requires
     add-sum
     add-k
     loop-less

@@ -1,0 +1,17 @@
+-- `path::segment_size` meets its contract. Assumes nothing.
+use Rattle.path.proofs.Ways.{ways}
+use borrow.Author.Needs.{needs}
+use Rattle.path.proofs.segment_size.Statement.{statement}
+use Rattle.path.proofs.segment_size.Tie as tie
+
+is-line-requires : tie.Need-is-line-requires
+is-line-requires c κs = search needs
+
+returns : tie.Need-returns
+returns c = search (needs, ways)
+
+returns-2 : tie.Need-returns-2
+returns-2 c = search (needs, ways)
+
+pub segment-size-spec : {M : Type 1} → statement M
+segment-size-spec = tie.close (tie.spec is-line-requires returns returns-2)

@@ -1,0 +1,42 @@
+-- `shape::enough_for` meets its contract. Assumes nothing.
+use Rattle.shape.proofs.Ways.{drawn-ways}
+use borrow.Author.Needs.{needs}
+use Rattle.shape.proofs.enough_for.Statement.{statement}
+use Rattle.shape.proofs.enough_for.Tie as tie
+
+enum-known-shape : tie.Need-enum-known-shape
+enum-known-shape c = search needs
+
+mul-result : tie.Need-mul-result
+mul-result c = search (needs, drawn-ways)
+
+add-result : tie.Need-add-result
+add-result c = search (needs, drawn-ways)
+
+enum-known-shape-2 : tie.Need-enum-known-shape-2
+enum-known-shape-2 c = search needs
+
+rect-count-requires : tie.Need-rect-count-requires
+rect-count-requires c κs = search needs
+
+mul-result-2 : tie.Need-mul-result-2
+mul-result-2 c = search (needs, drawn-ways)
+
+returns : tie.Need-returns
+returns c = search (needs, drawn-ways)
+
+returns-2 : tie.Need-returns-2
+returns-2 c = search (needs, drawn-ways)
+
+pub enough-for-spec : {M : Type 1} → statement M
+enough-for-spec =
+    tie.close
+    (tie.spec
+    enum-known-shape
+    mul-result
+    add-result
+    enum-known-shape-2
+    rect-count-requires
+    mul-result-2
+    returns
+    returns-2)
