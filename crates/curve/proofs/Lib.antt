@@ -1,0 +1,3 @@
+-- What the proofs of `curve` cite.
+pub mod Chords
+pub mod Ways
