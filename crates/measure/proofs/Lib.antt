@@ -1,0 +1,2 @@
+-- What the proofs of `measure` cite.
+pub mod Ways

@@ -1,0 +1,2 @@
+-- The length of a path.
+pub mod Length
