@@ -47,7 +47,7 @@ module _ (start control end : Point) where
   unfolding quadPoint stepOf
   quad-more n length d previous next w h e f =
       walked-more (quadPoint start control end) 24 n length previous w d next h
-        (e ∙ ap₂ (λ (k : ℕ) (m : Float). evalQuad start control end (div binary32 (ofInt binary32 (pos k)) m)) (add-one n) (sym quad-steps)) f
+      (e ∙ ap₂ (λ (k : ℕ) (m : Float). evalQuad start control end (div binary32 (ofInt binary32 (pos k)) m)) (add-one n) (sym quad-steps)) f
 
   pub quad-all : (n : ℕ) (length : Float) (previous : Point) → Walked (quadPoint start control end) 24 n length previous → 24 ≤ n → length ≡ quadLength start control end
   unfolding quadLengthAfter
@@ -64,7 +64,7 @@ module _ (start control1 control2 end : Point) where
   unfolding cubicPoint stepOf
   cubic-more n length d previous next w h e f =
       walked-more (cubicPoint start control1 control2 end) 32 n length previous w d next h
-        (e ∙ ap₂ (λ (k : ℕ) (m : Float). evalCubic start control1 control2 end (div binary32 (ofInt binary32 (pos k)) m)) (add-one n) (sym cubic-steps)) f
+      (e ∙ ap₂ (λ (k : ℕ) (m : Float). evalCubic start control1 control2 end (div binary32 (ofInt binary32 (pos k)) m)) (add-one n) (sym cubic-steps)) f
 
   pub cubic-all : (n : ℕ) (length : Float) (previous : Point) → Walked (cubicPoint start control1 control2 end) 32 n length previous → 32 ≤ n → length ≡ cubicLength start control1 control2 end
   unfolding cubicLengthAfter

@@ -1,3 +1,4 @@
--- What the proofs of `curve` cite.
+-- What the proofs of `curve` cite, and closed cases.
 pub mod Chords
 pub mod Ways
+mod Cases

@@ -52,8 +52,8 @@ pub cubic-is : (start control1 control2 end : Point) (t x1 x2 x y1 y2 y : Float)
 unfolding evalCubic
 cubic-is start control1 control2 end t x1 x2 x y1 y2 y a b c d e f =
     ap₂ (λ (x y : Float). record { x = x; y = y })
-      (cubic-at (start .x) (control1 .x) (control2 .x) (end .x) t x1 x2 x a c e)
-      (cubic-at (start .y) (control1 .y) (control2 .y) (end .y) t y1 y2 y b d f)
+    (cubic-at (start .x) (control1 .x) (control2 .x) (end .x) t x1 x2 x a c e)
+    (cubic-at (start .y) (control1 .y) (control2 .y) (end .y) t y1 y2 y b d f)
 
 -- ---- the loops
 pub quad-step-fits : (n : ℕ) → n < 24 → Fits w16 (n + 1)

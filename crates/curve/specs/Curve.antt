@@ -41,7 +41,8 @@ distance a b = hypotOf binary32 (b .x ⊖ a .x) (b .y ⊖ a .y)
 unfoldable pub quadAt : Float → Float → Float → Float → Float
 quadAt start control end t =
     let u = one32 ⊖ t in
-    fma binary32 (t ⊗ t) end (fma binary32 (u ⊗ u) start (two32 ⊗ u ⊗ t ⊗ control))
+    let first = fma binary32 (u ⊗ u) start (two32 ⊗ u ⊗ t ⊗ control) in
+    fma binary32 (t ⊗ t) end first
 
 unfoldable pub evalQuad : Point → Point → Point → Float → Point
 evalQuad start control end t = record {
@@ -53,9 +54,9 @@ evalQuad start control end t = record {
 unfoldable pub cubicAt : Float → Float → Float → Float → Float → Float
 cubicAt start control1 control2 end t =
     let u = one32 ⊖ t in
-    fma binary32 (cubed t) end
-      (fma binary32 (three32 ⊗ u ⊗ squared t) control2
-        (fma binary32 (cubed u) start (three32 ⊗ squared u ⊗ t ⊗ control1)))
+    let first = fma binary32 (cubed u) start (three32 ⊗ squared u ⊗ t ⊗ control1) in
+    let second = fma binary32 (three32 ⊗ u ⊗ squared t) control2 first in
+    fma binary32 (cubed t) end second
 
 unfoldable pub evalCubic : Point → Point → Point → Point → Float → Point
 evalCubic start control1 control2 end t = record {

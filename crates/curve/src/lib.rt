@@ -26,9 +26,11 @@ pub fn eval_quad(start: Point, control: Point, end: Point, t: f32) -> Point
     let of_start = u * u;
     let of_control = 2.0 * u * t;
     let of_end = t * t;
+    let x1 = fused::mul_add(of_start, start.x, of_control * control.x);
+    let y1 = fused::mul_add(of_start, start.y, of_control * control.y);
     Point {
-        x: fused::mul_add(of_end, end.x, fused::mul_add(of_start, start.x, of_control * control.x)),
-        y: fused::mul_add(of_end, end.y, fused::mul_add(of_start, start.y, of_control * control.y)),
+        x: fused::mul_add(of_end, end.x, x1),
+        y: fused::mul_add(of_end, end.y, y1),
     }
 }
 

@@ -1,2 +1,3 @@
--- What the proofs of `measure` cite.
+-- What the proofs of `measure` cite, and closed cases.
 pub mod Ways
+mod Cases

@@ -1,5 +1,5 @@
 -- What each way out of a function of this crate owes, as the code meets it. Assumes nothing.
-use mathlib.Core.Path.{_≡_, refl, sym, ap, _∙_}
+use mathlib.Core.Path.{_≡_, refl, sym, ap, ap₂, _∙_}
 use lib.Ieee.{Float}
 use Rattle.ieee.specs.Literal.{zero32}
 use Rattle.command.specs.declared.PathCommand.{PathCommand}
@@ -9,7 +9,7 @@ use Rattle.curve.specs.Curve.{_⊕_, distance, quadLength, cubicLength}
 use Rattle.measure.specs.declared.Place.{Place}
 use Rattle.measure.specs.declared.Place.the-variants.{Nowhere, At}
 use Rattle.measure.specs.declared.Pen.{Pen}
-use Rattle.measure.specs.Length.{startPen, added, moveTo, arrive, lineTo, quadTo, cubicTo, closeTo, close, step}
+use Rattle.measure.specs.Length.{startPen, added, moveTo, arrive, lineTo, quadTo, cubicTo, closing, close, step}
 
 pub start-is : _≡_ {A = Pen} (record { length = zero32; point = Nowhere; start = Nowhere }) startPen
 unfolding startPen
@@ -70,13 +70,15 @@ module _ (pen : Pen) (next : Point) where
     cubic-from control1 control2 p d h f e = with-point (λ p. cubicLength p control1 control2 next) p d h f e
 
 -- ---- close
-pub close-without : (pen : Pen) → pen .start ≡ Nowhere → _≡_ {A = Pen} (record { length = pen .length; point = Nowhere; start = Nowhere }) (close pen)
-unfolding close closeTo
-close-without pen h = rw h
+pub close-without : (pen : Pen) → pen .start ≡ Nowhere → _≡_ {A = Pen} (record { length = pen .length; point = pen .start; start = pen .start }) (close pen)
+unfolding close closing
+close-without pen h =
+    ap (λ (x : Float). record { length = x; point = pen .start; start = pen .start }) (ap (closing (pen .length) (pen .point)) (sym h))
 
 pub close-to : (pen r : Pen) (s : Point) → pen .start ≡ At s → r ≡ lineTo pen s → r ≡ close pen
-unfolding close closeTo
-close-to pen r s h e = e ∙ ap (closeTo pen) (sym h)
+unfolding close closing lineTo arrive
+close-to pen r s h e =
+    e ∙ ap₂ (λ (x : Float) (at : Place). record { length = x; point = at; start = pen .start }) (ap (closing (pen .length) (pen .point)) (sym h)) (sym h)
 
 -- ---- step
 module _ (pen r : Pen) (command : PathCommand) where

@@ -39,15 +39,15 @@ unfoldable pub cubicTo : Pen → Point → Point → Point → Pen
 unfolding arrive added
 cubicTo pen control1 control2 next = arrive pen next (added (pen .length) (pen .point) (λ p. cubicLength p control1 control2 next))
 
--- A close goes back to the contour's start. Without a start it adds nothing, and clears the point.
-unfoldable pub closeTo : Pen → Place → Pen
-unfolding lineTo
-closeTo pen Nowhere = record { length = pen .length; point = Nowhere; start = Nowhere }
-closeTo pen (At s) = lineTo pen s
+-- A close adds the way back to the contour's start, if there is one, and goes there. Without a start it adds nothing, and clears the point.
+unfoldable pub closing : Float → Place → Place → Float
+unfolding added
+closing length point Nowhere = length
+closing length point (At s) = added length point (λ p. distance p s)
 
 unfoldable pub close : Pen → Pen
-unfolding closeTo
-close pen = closeTo pen (pen .start)
+unfolding closing
+close pen = record { length = closing (pen .length) (pen .point) (pen .start); point = pen .start; start = pen .start }
 
 unfoldable pub step : Pen → PathCommand → Pen
 step pen (Move x y) = moveTo pen (record { x = x; y = y })

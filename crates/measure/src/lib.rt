@@ -40,18 +40,19 @@ fn move_to(pen: Pen, next: Point) -> Pen
     }
 }
 
-// The same contour at another point.
+// The same contour at another point, with this length.
 fn arrive(pen: Pen, next: Point, length: f32) -> Pen
     ensures { λ r. ⌜ r ≡ spec.arrive pen next length ⌝ }
 {
-    let first = pen.start;
+    let start = pen.start;
     Pen {
         length,
         point: Place::At(next),
-        start: first,
+        start,
     }
 }
 
+// A line. Without a point to come from it adds nothing.
 fn line_to(pen: Pen, next: Point) -> Pen
     ensures { λ r. ⌜ r ≡ spec.lineTo pen next ⌝ }
 {
@@ -62,6 +63,7 @@ fn line_to(pen: Pen, next: Point) -> Pen
     }
 }
 
+// A quadratic curve, likewise.
 fn quad_to(pen: Pen, control: Point, next: Point) -> Pen
     ensures { λ r. ⌜ r ≡ spec.quadTo pen control next ⌝ }
 {
@@ -72,13 +74,18 @@ fn quad_to(pen: Pen, control: Point, next: Point) -> Pen
     }
 }
 
+// A cubic curve, likewise.
 fn cubic_to(pen: Pen, control1: Point, control2: Point, next: Point) -> Pen
     ensures { λ r. ⌜ r ≡ spec.cubicTo pen control1 control2 next ⌝ }
 {
     let last = pen.point;
     match last {
         Place::Nowhere => arrive(pen, next, pen.length),
-        Place::At(p) => arrive(pen, next, pen.length + curve::cubic_length(p, control1, control2, next)),
+        Place::At(p) => arrive(
+            pen,
+            next,
+            pen.length + curve::cubic_length(p, control1, control2, next),
+        ),
     }
 }
 
@@ -90,14 +97,14 @@ fn close(pen: Pen) -> Pen
     match first {
         Place::Nowhere => Pen {
             length: pen.length,
-            point: Place::Nowhere,
-            start: Place::Nowhere,
+            point: first,
+            start: first,
         },
         Place::At(s) => line_to(pen, s),
     }
 }
 
-// What one more command makes of it.
+// The pen after one more command.
 pub fn step(pen: Pen, command: PathCommand) -> Pen
     ensures { λ r. ⌜ r ≡ spec.step pen command ⌝ }
 {
@@ -105,7 +112,12 @@ pub fn step(pen: Pen, command: PathCommand) -> Pen
         PathCommand::Move(x, y) => move_to(pen, Point { x, y }),
         PathCommand::Line(x, y) => line_to(pen, Point { x, y }),
         PathCommand::Cubic(ax, ay, bx, by, x, y) => {
-            cubic_to(pen, Point { x: ax, y: ay }, Point { x: bx, y: by }, Point { x, y })
+            cubic_to(
+                pen,
+                Point { x: ax, y: ay },
+                Point { x: bx, y: by },
+                Point { x, y },
+            )
         }
         PathCommand::Close => close(pen),
         PathCommand::Quad(ax, ay, x, y) => quad_to(pen, Point { x: ax, y: ay }, Point { x, y }),
