@@ -5,14 +5,13 @@ use mathlib.Core.Bool.{Bool, true, false, cond, _&&_}
 use mathlib.Core.List.{List}
 use Prim.Native.Nat.{ℕ, _+_, _-_, _*_, _≤_, _<_}
 use native.Mathlib.Nat.{add-zero, le-refl}
-use native.Mathlib.Numerals.{add-one}
 use native.Mathlib.Omega.{arith}
 use lib.Dec.{eqb, ltb, leb}
 use lib.Ieee.{Float, nan}
-use lib.ListN.{length, getD, take, drop, length-drop, drop-of-length-le}
-use lib.Seq.{drop-cons, length-take-le, take-all, getD-drop}
+use lib.ListN.{length, getD, take, drop, length-drop}
+use lib.Seq.{length-take-le, take-all, getD-drop}
 use borrow.Author.Tests.{eq-eqb, ne-eqb, eqb-false, lt-ltb, le-ltb, lt-leb, le-leb}
-use Rattle.ieee.specs.Limit.{within}
+use Rattle.ieee.specs.Limit.{allWithin}
 use Rattle.command.specs.declared.Refusal.{Refusal}
 use Rattle.command.specs.declared.Refusal.the-variants.{Empty, TooMany, OutOfRange, Unlisted, Unsupported, OutOfBounds}
 use Rattle.command.specs.declared.Drawn.{Drawn}
@@ -26,30 +25,9 @@ use Rattle.shape.specs.Shape.{shapeCommands, Fit}
 use Rattle.draw.specs.declared.ItemRow.{ItemRow}
 use Rattle.draw.specs.declared.Checked.{Checked}
 use Rattle.draw.specs.declared.Checked.the-variants.{Fault, Sound}
-use Rattle.draw.specs.Checks.{coordinateLimit, allWithin, outcomeOf, Ready}
+use Rattle.draw.specs.Checks.{coordinateLimit, outcomeOf, Ready}
 use Rattle.draw.specs.Paths.{drawPath}
 use Rattle.draw.specs.Items.{itemRow, isDrawable, isPath, isBare, entriesOf, itemShape, drawSource, drawItem}
-
--- ---- all_within
--- the numbers from place i on are still to be judged, and settle the answer
-abbrev pub Left : List Float → ℕ → Type 0
-Left v i = allWithin coordinateLimit (drop i v) ≡ allWithin coordinateLimit v
-
-module _ (v : List Float) (i : ℕ) (left : Left v i) where
-  module _ (t : Bool) (is : t ≡ within coordinateLimit (getD v i nan)) (h : i < length v) where
-    pub within-more : t ≡ true → Left v (i + 1)
-    unfolding allWithin
-    within-more e = rw add-one (rw (drop-cons v i nan h, ← is, e) at left)
-
-    pub beyond-here : t ≡ false → false ≡ allWithin coordinateLimit v
-    unfolding allWithin
-    beyond-here e = rw (drop-cons v i nan h, ← is, e) at left
-
-  pub within-all : length v ≤ i → true ≡ allWithin coordinateLimit v
-  unfolding allWithin
-  within-all h = rw (drop-of-length-le v {i = i} h) at left
-
-pub ruleset limits = (within-more, beyond-here, within-all)
 
 -- ---- check_path
 module _ (closed : ℕ) (v : List Float) (count : ℕ) where

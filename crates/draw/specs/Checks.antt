@@ -1,10 +1,8 @@
 -- The limit of a shape's numbers, and what a call's checks hand on. Definitions only.
 use Prim.Native.Nat.{_≤_}
-use mathlib.Core.Bool.{Bool, true, _&&_}
-use mathlib.Core.List.{List, [], _∷_}
+use mathlib.Core.List.{List}
 use lib.Ieee.{Float, ofBits, binary32}
 use lib.ListN.{length, drop}
-use Rattle.ieee.specs.Limit.{within}
 use Rattle.command.specs.Outcomes.{Outcome, refused, drawn}
 use Rattle.shape.specs.Shape.{shapeCommands, Fit}
 use Rattle.draw.specs.declared.Checked.{Checked}
@@ -13,11 +11,6 @@ use Rattle.draw.specs.declared.Checked.the-variants.{Fault, Sound}
 -- 1,048,576
 abbrev pub coordinateLimit : Float
 coordinateLimit = ofBits binary32 0x49800000
-
--- each number is finite and at most the limit in absolute value
-unfoldable pub allWithin : Float → List Float → Bool
-allWithin limit [] = true
-allWithin limit (x ∷ xs) = within limit x && allWithin limit xs
 
 -- what is found, as an outcome: the numbers of a sound shape start at its place of the list
 unfoldable pub outcomeOf : Checked → List Float → Outcome

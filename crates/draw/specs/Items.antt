@@ -5,6 +5,7 @@ use mathlib.Core.List.{List}
 use lib.Dec.{eqb, ltb, leb}
 use lib.Ieee.{Float, nan}
 use lib.ListN.{length, getD, take, drop}
+use Rattle.ieee.specs.Limit.{allWithin}
 use Rattle.command.specs.declared.Refusal.the-variants.{Empty, TooMany, OutOfRange, Unlisted, Unsupported, OutOfBounds}
 use Rattle.command.specs.Outcomes.{Outcome, refused, drawn}
 use Rattle.rect.specs.Rect.{rectCorners}
@@ -12,7 +13,7 @@ use Rattle.shape.specs.declared.Shape.{Shape}
 use Rattle.shape.specs.declared.Shape.the-variants.{Path, Rect}
 use Rattle.shape.specs.Shape.{shapeCommands}
 use Rattle.draw.specs.declared.ItemRow.{ItemRow}
-use Rattle.draw.specs.Checks.{coordinateLimit, allWithin}
+use Rattle.draw.specs.Checks.{coordinateLimit}
 
 -- the six entries of the row at place r: kind, hidden, depth, mark, place, count
 abbrev pub itemRow : List ℕ → ℕ → ItemRow

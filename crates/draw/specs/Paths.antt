@@ -5,10 +5,11 @@ use mathlib.Core.List.{List}
 use lib.Dec.{eqb, ltb}
 use lib.Ieee.{Float}
 use lib.ListN.{length, take}
+use Rattle.ieee.specs.Limit.{allWithin}
 use Rattle.command.specs.declared.Refusal.the-variants.{Empty, TooMany, OutOfRange, Unlisted, OutOfBounds}
 use Rattle.command.specs.Outcomes.{Outcome, refused, drawn}
 use Rattle.path.specs.Path.{pathCommands}
-use Rattle.draw.specs.Checks.{coordinateLimit, allWithin}
+use Rattle.draw.specs.Checks.{coordinateLimit}
 
 -- the checks 1, 2, 4, 12, 3 in this order, then the commands: numbers past the lent vertices are not read
 unfoldable pub drawPath : ℕ → List Float → ℕ → Outcome

@@ -6,7 +6,7 @@ ghost use mathlib.Core.Path.{_≡_};
 ghost use Prim.Native.Nat.{_+_, _*_, _≤_};
 ghost use lib.ListN.{length, drop};
 ghost use Rattle.command.specs.Outcomes.{Filled, Outcome, fitted, drawnNumber, drawnCodes, drawnNumbers};
-ghost use Rattle.draw.specs.Checks.{coordinateLimit, allWithin, outcomeOf, Ready};
+ghost use Rattle.draw.specs.Checks.{outcomeOf, Ready};
 ghost use Rattle.draw.specs.Paths.{drawPath};
 ghost use Rattle.draw.specs.Items.{itemRow, isDrawable, isBare, entriesOf, itemShape, drawSource, drawItem};
 
@@ -29,21 +29,6 @@ pub enum Checked {
     Sound(usize, Shape),
 }
 
-// Whether each number is within the limit for shapes.
-fn all_within(numbers: &[f32]) -> bool
-    ensures { λ r. ⌜ r ≡ allWithin coordinateLimit (now (numbers .entry)) ⌝ }
-{
-    let mut i: usize = 0;
-    while i < numbers.len() {
-        if float::is_within(numbers[i], 1048576.0) {
-            i += 1;
-        } else {
-            return false;
-        }
-    }
-    true
-}
-
 // The checks of a vertex list, all but that of the buffers.
 fn check_path(closed: u32, vertices: &[f32], count: usize) -> Checked
     ensures { λ r. ⌜ (outcomeOf r (now (vertices .entry)) ≡ drawPath closed (now (vertices .entry)) count) × Ready r (now (vertices .entry)) ⌝ }
@@ -61,7 +46,7 @@ fn check_path(closed: u32, vertices: &[f32], count: usize) -> Checked
     if vertices.len() < n {
         return Checked::Fault(Refusal::OutOfBounds);
     }
-    if all_within(&vertices[..n]) {
+    if float::all_within(&vertices[..n], 1048576.0) {
         Checked::Sound(0, Shape::Path(closed, count))
     } else {
         Checked::Fault(Refusal::OutOfRange)
@@ -160,7 +145,7 @@ fn check_source(row: ItemRow, items: &[f32]) -> Checked
     if items.len() - n < place {
         return Checked::Fault(Refusal::OutOfBounds);
     }
-    if all_within(&items[place..place + n]) {
+    if float::all_within(&items[place..place + n], 1048576.0) {
         Checked::Sound(place, shape_of(row, items))
     } else {
         Checked::Fault(Refusal::OutOfRange)

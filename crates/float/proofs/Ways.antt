@@ -2,16 +2,20 @@
 use mathlib.Core.Path.{_≡_, refl, sym, ap, _∙_, subst}
 use Prim.Native.Nat.{ℕ, zero, suc, _+_, _-_, _*_, _/_, _%_, _^_, _≤_, _<_}
 use native.Mathlib.Nat.{le-antisymm}
+use native.Mathlib.Numerals.{add-one}
 use native.Mathlib.Omega.{arith}
 use mathlib.Core.Bool.{Bool, true, false, not, _&&_, cond}
+use mathlib.Core.List.{List}
 use lib.Dec.{T, leb}
 use lib.Ieee.{Float, nan, inf, fin, binary32, units, neg, lt, le, ne, eq, fits, isNan, ofBits, toBits, nanBits}
 use lib.Ieee.Bits.{ofBits-toBits, toBits-lt, is-false}
 use lib.Ieee.Exact.{HasValue}
 use lib.Ieee.Scale.{finite}
+use lib.ListN.{length, getD, drop, drop-of-length-le}
+use lib.Seq.{drop-cons}
 use Rattle.ieee.specs.Sign.{abs}
 use Rattle.ieee.specs.Choice.{min, max, atLeast, atMost, clamp}
-use Rattle.ieee.specs.Limit.{within}
+use Rattle.ieee.specs.Limit.{within, allWithin}
 use Rattle.ieee.specs.Pattern.{withSign, dropsOf, digitsOf, infinity}
 use Rattle.ieee.proofs.Value.{value-finite}
 use Rattle.ieee.proofs.Pattern.{pattern-ok, write-finite, write-inf, read-value, read-inf, read-number, abs-pattern, is-nan, is-number}
@@ -158,3 +162,24 @@ pub within-not : (limit x : Float) → le x limit ≡ false → false ≡ within
 within-not limit x h = sym (within-both x limit ∙ ap (λ (b : Bool). b && le (neg limit) x) h)
 
 pub ruleset ways = (number, pattern-fits, split-nan, split-inf, split-finite, ok-minus, ok-plus, signed-minus, signed-plus, encode-finite, encode-inf, abs-nan, abs-ok, abs-number, min-first, min-beside-nan, min-second, max-first, max-beside-nan, max-second, at-least-low, at-least-stay, clamp-high, clamp-stay, within-low, within-not)
+
+-- ---- all_within
+-- the numbers from place i on are still to be judged, and settle the answer
+abbrev pub Left : Float → List Float → ℕ → Type 0
+Left limit v i = allWithin limit (drop i v) ≡ allWithin limit v
+
+module _ (limit : Float) (v : List Float) (i : ℕ) (left : Left limit v i) where
+  module _ (t : Bool) (is : t ≡ within limit (getD v i nan)) (h : i < length v) where
+    pub within-more : t ≡ true → Left limit v (i + 1)
+    unfolding allWithin
+    within-more e = rw add-one (rw (drop-cons v i nan h, ← is, e) at left)
+
+    pub beyond-here : t ≡ false → false ≡ allWithin limit v
+    unfolding allWithin
+    beyond-here e = rw (drop-cons v i nan h, ← is, e) at left
+
+  pub within-all : length v ≤ i → true ≡ allWithin limit v
+  unfolding allWithin
+  within-all h = rw (drop-of-length-le v {i = i} h) at left
+
+pub ruleset limits = (within-more, beyond-here, within-all)

@@ -6,7 +6,7 @@ ghost use lib.Ieee as Ieee;
 ghost use lib.Ieee.{binary32, units};
 ghost use Rattle.ieee.specs.Sign as Sign;
 ghost use Rattle.ieee.specs.Choice as Choice;
-ghost use Rattle.ieee.specs.Limit.{within};
+ghost use Rattle.ieee.specs.Limit.{within, allWithin};
 ghost use Rattle.ieee.specs.Pattern.{withSign, dropsOf, infinity};
 ghost use Rattle.float.specs.Parts.{PartsOf};
 
@@ -139,4 +139,19 @@ pub fn is_within(x: f32, limit: f32) -> bool
     ensures { λ r. ⌜ r ≡ within limit x ⌝ }
 {
     if x <= limit { -limit <= x } else { false }
+}
+
+// Whether each number is at most `limit` in absolute value.
+pub fn all_within(numbers: &[f32], limit: f32) -> bool
+    ensures { λ r. ⌜ r ≡ allWithin limit (now (numbers .entry)) ⌝ }
+{
+    let mut i: usize = 0;
+    while i < numbers.len() {
+        if is_within(numbers[i], limit) {
+            i += 1;
+        } else {
+            return false;
+        }
+    }
+    true
 }

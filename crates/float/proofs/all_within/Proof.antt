@@ -1,16 +1,16 @@
--- `draw::all_within` meets its contract. Assumes nothing.
+-- `float::all_within` meets its contract. Assumes nothing.
 use borrow.Author.Needs.{needs}
 use Prim.Native.Nat.{_-_}
 use lib.ListN.{length}
-use Rattle.draw.proofs.Ways.{Left, limits}
-use Rattle.draw.proofs.all_within.Statement.{statement}
-use Rattle.draw.proofs.all_within.Tie as tie
+use Rattle.float.proofs.Ways.{Left, limits}
+use Rattle.float.proofs.all_within.Statement.{statement}
+use Rattle.float.proofs.all_within.Tie as tie
 
 abbrev Inv-loop : tie.InvT-loop
-Inv-loop numbers i₀ i = Left numbers i
+Inv-loop numbers limit i₀ i = Left limit numbers i
 
 abbrev μ-loop : tie.MeasureT-loop
-μ-loop numbers i₀ i = length numbers - i
+μ-loop numbers limit i₀ i = length numbers - i
 
 loop-holds : tie.Need-loop-holds Inv-loop μ-loop
 loop-holds c = search (needs, limits)
