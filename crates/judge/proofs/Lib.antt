@@ -1,0 +1,2 @@
+-- What the proofs of `judge` cite.
+pub mod Ways

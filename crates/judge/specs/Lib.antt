@@ -1,0 +1,2 @@
+-- What a lent command list says, and whether it is sound.
+pub mod Lists

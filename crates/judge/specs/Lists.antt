@@ -1,0 +1,83 @@
+-- A command list as codes and numbers: the order of its checks, its commands, and the numbers of one command. Definitions only.
+use Prim.Native.Nat.{ℕ, zero, suc, _+_}
+use mathlib.Core.Bool.{cond}
+use mathlib.Core.List.{List, [], _∷_}
+use lib.Dec.{eqb, ltb}
+use lib.Ieee.{Float, nan}
+use lib.ListN.{length, getD, take, drop}
+use Rattle.ieee.specs.Limit.{allWithin}
+use Rattle.command.specs.declared.PathCommand.{PathCommand}
+use Rattle.command.specs.declared.PathCommand.the-variants.{Move, Line, Cubic, Close, Quad}
+use Rattle.command.specs.declared.Refusal.the-variants.{TooMany, OutOfRange, Unlisted, OutOfBounds}
+use Rattle.command.specs.Enlarged.{commandLimit}
+use Rattle.command.specs.Outcomes.{Outcome, refused, drawn, numberOf}
+use Rattle.judge.specs.declared.Judged.{Judged}
+use Rattle.judge.specs.declared.Judged.the-variants.{Fault, Sound}
+
+-- how many numbers a command has: move 0 and line 1 two, cubic 2 six, close 3 none, quad 4 four
+unfoldable pub sizeOfCode : ℕ → ℕ
+sizeOfCode c = cond (ltb c 2) 2 (cond (eqb c 2) 6 (cond (eqb c 4) 4 0))
+
+-- the command with this code whose numbers stand at the start of v
+unfoldable pub commandAt : ℕ → List Float → PathCommand
+commandAt c v =
+    cond (eqb c 0) (Move (getD v 0 nan) (getD v 1 nan))
+    (cond (eqb c 1) (Line (getD v 0 nan) (getD v 1 nan))
+    (cond (eqb c 2) (Cubic (getD v 0 nan) (getD v 1 nan) (getD v 2 nan) (getD v 3 nan) (getD v 4 nan) (getD v 5 nan))
+    (cond (eqb c 3) Close (Quad (getD v 0 nan) (getD v 1 nan) (getD v 2 nan) (getD v 3 nan)))))
+
+-- one command more before those of an outcome; a refusal stays
+unfoldable pub before : PathCommand → Outcome → Outcome
+before c (refused r) = refused r
+before c (drawn cs) = drawn (c ∷ cs)
+
+-- the first faulty command in list order counts, by 4, 12, 3; numbers left over after the last command come last, as 12
+unfoldable pub readList : List ℕ → List Float → Outcome
+unfolding sizeOfCode commandAt allWithin before
+readList [] v = cond (eqb (length v) 0) (drawn []) (refused OutOfBounds)
+readList (c ∷ cs) v =
+    cond (ltb 4 c) (refused Unlisted)
+    (cond (ltb (length v) (sizeOfCode c)) (refused OutOfBounds)
+    (cond (allWithin commandLimit (take (sizeOfCode c) v)) (before (commandAt c v) (readList cs (drop (sizeOfCode c) v))) (refused OutOfRange)))
+
+-- the length limit is first: over 262,144 commands is 2
+unfoldable pub judgeList : List ℕ → List Float → Outcome
+unfolding readList
+judgeList codes numbers = cond (ltb 262144 (length codes)) (refused TooMany) (readList codes numbers)
+
+-- an outcome without its commands
+unfoldable pub judgedOf : Outcome → Judged
+judgedOf (refused r) = Fault r
+judgedOf (drawn cs) = Sound
+
+-- how many numbers the first k commands have, which is where those of command k start
+unfoldable pub placeOf : ℕ → List ℕ → ℕ
+unfolding sizeOfCode
+placeOf zero cs = 0
+placeOf (suc k) [] = 0
+placeOf (suc k) (c ∷ cs) = sizeOfCode c + placeOf k cs
+
+-- an outcome asked for one command: a missing command, k of count or more, is 12
+unfoldable pub askedFor : ℕ → ℕ → Outcome → Outcome
+askedFor k count (refused r) = refused r
+askedFor k count (drawn cs) = cond (ltb k count) (drawn cs) (refused OutOfBounds)
+
+-- the list is judged as for its length, then command k is asked for
+unfoldable pub judgeCommand : List ℕ → List Float → ℕ → Outcome
+unfolding judgeList askedFor
+judgeCommand codes numbers k = askedFor k (length codes) (judgeList codes numbers)
+
+-- the number that tells why there is no part: 0 where there is one
+unfoldable pub commandFault : List ℕ → List Float → ℕ → ℕ
+unfolding judgeCommand
+commandFault codes numbers k = numberOf (judgeCommand codes numbers k)
+
+-- a part that an outcome hands back: none for a refusal
+unfoldable pub partOf : Outcome → List Float → List Float
+partOf (refused r) v = []
+partOf (drawn cs) v = v
+
+-- the numbers of command k, as a part of the list
+unfoldable pub commandPart : List ℕ → List Float → ℕ → List Float
+unfolding judgeCommand partOf placeOf sizeOfCode
+commandPart codes numbers k = partOf (judgeCommand codes numbers k) (take (sizeOfCode (getD codes k 3)) (drop (placeOf k codes) numbers))
