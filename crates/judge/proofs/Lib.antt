@@ -1,2 +1,3 @@
--- What the proofs of `judge` cite.
+-- What the proofs of `judge` cite, and what its definitions say of written commands.
 pub mod Ways
+pub mod Lists

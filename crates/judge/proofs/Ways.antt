@@ -74,6 +74,15 @@ module _ (c : ℕ) (cs : List ℕ) (v : List Float) where
           rw (le-ltb 4 c a, le-ltb (length v) (sizeOfCode c) b, d)
           (judged-before (commandAt c v) (readList cs (drop (sizeOfCode c) v)))
 
+-- after the last command
+pub left-over : (u : List Float) → 0 < length u → Fault OutOfBounds ≡ judgedOf (readList [] u)
+unfolding readList judgedOf
+left-over u a = let e : length u ≡ 0 → ⊥ = λ z. omega arith in rw (ne-eqb (length u) 0 e)
+
+none-over : (u : List Float) → length u ≡ 0 → Sound ≡ judgedOf (readList [] u)
+unfolding readList judgedOf
+none-over u a = rw (eq-eqb (length u) 0 a)
+
 -- the rest, judged from place i of the codes and from place of the numbers, settles the answer
 unfoldable pub Left : List ℕ → List Float → ℕ → ℕ → Type 0
 Left codes numbers i place = judgedOf (readList (drop i codes) (drop place numbers)) ≡ judgedOf (readList codes numbers)
@@ -143,14 +152,6 @@ module _ (codes : List ℕ) (numbers : List Float) where
       unfolding Left
       ended = ap (λ (l : List ℕ). judgedOf (readList l v)) (sym (drop-of-length-le codes {i = i} h)) ∙ left ∙ list-read few
 
-      left-over : (u : List Float) → 0 < length u → Fault OutOfBounds ≡ judgedOf (readList [] u)
-      unfolding readList judgedOf
-      left-over u a = let e : length u ≡ 0 → ⊥ = λ z. omega arith in rw (ne-eqb (length u) 0 e)
-
-      none-over : (u : List Float) → length u ≡ 0 → Sound ≡ judgedOf (readList [] u)
-      unfolding readList judgedOf
-      none-over u a = rw (eq-eqb (length u) 0 a)
-
       pub judge-over : place < length numbers → Fault OutOfBounds ≡ judgedOf (judgeList codes numbers)
       judge-over a =
           let e : 0 < length v = rw left-length (omega arith) in
@@ -164,7 +165,7 @@ module _ (codes : List ℕ) (numbers : List Float) where
 pub ruleset judging = (list-many, left-all, judge-unlisted, judge-short, next-inside, judge-beyond, judge-on, judge-over, judge-sound)
 
 -- ---- judge_command
--- `askedFor`, `numberOf` and `partOf` read no command
+-- `askedFor` reads no command of the outcome
 unfoldable askedOf : ℕ → ℕ → Judged → Judged
 askedOf k count (Fault r) = Fault r
 askedOf k count Sound = cond (ltb k count) Sound (Fault OutOfBounds)
@@ -242,6 +243,7 @@ module _ (codes : List ℕ) where
 pub ruleset places = (place-start, place-end, place-next, place-room)
 
 -- ---- command_fault
+-- `numberOf` reads none either
 unfoldable faultOf : Judged → ℕ
 faultOf (Fault r) = refusalNumber r
 faultOf Sound = 0
@@ -271,23 +273,24 @@ abbrev IsSound : Judged → Type 0
 IsSound (Fault r) = ⊥
 IsSound Sound = Unit {0}
 
-fault-sound : (r : Refusal) {A : Type 0} → Fault r ≡ Sound → A
+pub fault-sound : (r : Refusal) {A : Type 0} → Fault r ≡ Sound → A
 fault-sound r e = absurd (subst IsSound (sym e) tt)
 
--- a sound list with a first command has that command's numbers, and a sound rest
-sound-splits : (c : ℕ) (cs : List ℕ) (v : List Float) → judgedOf (readList (c ∷ cs) v) ≡ Sound
-    → (sizeOfCode c ≤ length v) × (judgedOf (readList cs (drop (sizeOfCode c) v)) ≡ Sound)
+-- the first command of a sound list passes its checks, and the rest is sound
+pub sound-splits : (c : ℕ) (cs : List ℕ) (v : List Float) → judgedOf (readList (c ∷ cs) v) ≡ Sound
+    → (c ≤ 4) × (sizeOfCode c ≤ length v) × (allWithin commandLimit (take (sizeOfCode c) v) ≡ true)
+    × (judgedOf (readList cs (drop (sizeOfCode c) v)) ≡ Sound)
 unfolding readList
 sound-splits c cs v e =
     let s = go (ltb 4 c) (ltb (length v) (sizeOfCode c)) (allWithin commandLimit (take (sizeOfCode c) v)) (commandAt c v) (readList cs (drop (sizeOfCode c) v)) e in
-    (ltb-false (length v) (sizeOfCode c) (s .0), s .1)
+    (ltb-false 4 c (s .0), ltb-false (length v) (sizeOfCode c) (s .1), s .2, s .3)
   where
     go : (a b t : Bool) (p : PathCommand) (o : Outcome)
         → judgedOf (cond a (refused Unlisted) (cond b (refused OutOfBounds) (cond t (before p o) (refused OutOfRange)))) ≡ Sound
-        → (b ≡ false) × (judgedOf o ≡ Sound)
+        → (a ≡ false) × (b ≡ false) × (t ≡ true) × (judgedOf o ≡ Sound)
     go true b t p o e = fault-sound Unlisted (unfold judgedOf in e)
     go false true t p o e = fault-sound OutOfBounds (unfold judgedOf in e)
-    go false false true p o e = (refl, sym (judged-before p o) ∙ e)
+    go false false true p o e = (refl, refl, refl, sym (judged-before p o) ∙ e)
     go false false false p o e = fault-sound OutOfRange (unfold judgedOf in e)
 
 -- in a sound list the numbers of each command are inside
@@ -295,14 +298,15 @@ sound-inside : (codes : List ℕ) (v : List Float) (k d : ℕ) → judgedOf (rea
     → placeOf k codes + sizeOfCode (getD codes k d) ≤ length v
 unfolding placeOf
 sound-inside [] v k d e h = absurd (omega arith)
-sound-inside (c ∷ cs) v zero d e h = let s = sound-splits c cs v e .0 in omega arith
+sound-inside (c ∷ cs) v zero d e h = let s = sound-splits c cs v e .1 in omega arith
 sound-inside (c ∷ cs) v (suc k) d e h =
     let s = sound-splits c cs v e in
-    let i = sound-inside cs (drop (sizeOfCode c) v) k d (s .1) (omega arith) in
+    let i = sound-inside cs (drop (sizeOfCode c) v) k d (s .3) (omega arith) in
     let l = length-drop (sizeOfCode c) v in
-    let f = s .0 in
+    let f = s .1 in
     omega arith
 
+-- `partOf` reads no command either
 unfoldable partOfJudged : Judged → List Float → List Float
 partOfJudged (Fault r) v = []
 partOfJudged Sound v = v

@@ -33,7 +33,6 @@ before c (drawn cs) = drawn (c ∷ cs)
 
 -- the first faulty command in list order counts, by 4, 12, 3; numbers left over after the last command come last, as 12
 unfoldable pub readList : List ℕ → List Float → Outcome
-unfolding sizeOfCode commandAt allWithin before
 readList [] v = cond (eqb (length v) 0) (drawn []) (refused OutOfBounds)
 readList (c ∷ cs) v =
     cond (ltb 4 c) (refused Unlisted)
@@ -42,7 +41,6 @@ readList (c ∷ cs) v =
 
 -- the length limit is first: over 262,144 commands is 2
 unfoldable pub judgeList : List ℕ → List Float → Outcome
-unfolding readList
 judgeList codes numbers = cond (ltb 262144 (length codes)) (refused TooMany) (readList codes numbers)
 
 -- an outcome without its commands
@@ -52,7 +50,6 @@ judgedOf (drawn cs) = Sound
 
 -- how many numbers the first k commands have, which is where those of command k start
 unfoldable pub placeOf : ℕ → List ℕ → ℕ
-unfolding sizeOfCode
 placeOf zero cs = 0
 placeOf (suc k) [] = 0
 placeOf (suc k) (c ∷ cs) = sizeOfCode c + placeOf k cs
@@ -64,12 +61,10 @@ askedFor k count (drawn cs) = cond (ltb k count) (drawn cs) (refused OutOfBounds
 
 -- the list is judged as for its length, then command k is asked for
 unfoldable pub judgeCommand : List ℕ → List Float → ℕ → Outcome
-unfolding judgeList askedFor
 judgeCommand codes numbers k = askedFor k (length codes) (judgeList codes numbers)
 
 -- the number that tells why there is no part: 0 where there is one
 unfoldable pub commandFault : List ℕ → List Float → ℕ → ℕ
-unfolding judgeCommand
 commandFault codes numbers k = numberOf (judgeCommand codes numbers k)
 
 -- a part that an outcome hands back: none for a refusal
@@ -79,5 +74,4 @@ partOf (drawn cs) v = v
 
 -- the numbers of command k, as a part of the list
 unfoldable pub commandPart : List ℕ → List Float → ℕ → List Float
-unfolding judgeCommand partOf placeOf sizeOfCode
 commandPart codes numbers k = partOf (judgeCommand codes numbers k) (take (sizeOfCode (getD codes k 3)) (drop (placeOf k codes) numbers))
