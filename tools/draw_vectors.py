@@ -21,19 +21,15 @@ call each place of the codes is ee and each of the numbers is c29a8000, which is
     python3 tools/draw_vectors.py --check    compare both files; exit 1 where one differs
 """
 
-import sys
 from fractions import Fraction
-from pathlib import Path
 
 from float_vectors import (
     A_NAN, INFINITY, LARGEST, LARGEST_SUBNORMAL, NAN, ONE, SIGN, SMALLEST_NORMAL, TINIEST, ZERO,
     Random, absolute, add, around, both_signs, clamp, decode, encode, less, minimum, mul_add, of, rounded,
 )
-
-FOLDER = Path(__file__).resolve().parent.parent / "crates" / "vectors_draw"
+from vector_files import keep
 
 # What the vectors program has room for.
-LARGEST_INPUT = 65536
 LARGEST_LIST = 6150
 LARGEST_CODES = 1030
 LARGEST_NUMBERS = 6150
@@ -356,24 +352,5 @@ def texts():
     return "".join(line for line, _ in pairs), "".join(answer for _, answer in pairs)
 
 
-def main():
-    calls, results = texts()
-    if len(calls) > LARGEST_INPUT:
-        sys.exit("draw vectors: the input is larger than the program's buffer")
-    files = {FOLDER / "stdin": calls, FOLDER / "stdout": results}
-    count = calls.count("\n")
-    if sys.argv[1:] == ["--check"]:
-        wrong = [file.name for file, text in files.items() if not file.exists() or file.read_text() != text]
-        if wrong:
-            sys.exit("draw vectors: not as computed: " + ", ".join(wrong))
-        print("draw vectors: %d, as computed" % count)
-    elif sys.argv[1:]:
-        sys.exit(__doc__)
-    else:
-        for file, text in files.items():
-            file.write_text(text)
-        print("draw vectors: %d written" % count)
-
-
 if __name__ == "__main__":
-    main()
+    keep("draw", *texts(), __doc__)

@@ -12,15 +12,10 @@ pattern. A line of stdout is that line, ' = ', and the result's pattern, or 'nan
     python3 tools/float_vectors.py --check    compare both files; exit 1 where one differs
 """
 
-import sys
 from fractions import Fraction
 from math import isqrt
-from pathlib import Path
 
-FOLDER = Path(__file__).resolve().parent.parent / "crates" / "vectors_float"
-
-# The vectors program reads its input into one buffer of this many bytes.
-LARGEST_INPUT = 65536
+from vector_files import keep
 
 # A number is NAN, or a pair (sign, size): the sign is 0 or 1, the size a Fraction or INFINITE.
 NAN = "nan"
@@ -533,24 +528,5 @@ def texts():
     return "".join(calls), "".join(results)
 
 
-def main():
-    calls, results = texts()
-    if len(calls) > LARGEST_INPUT:
-        sys.exit("float vectors: the input is larger than the program's buffer")
-    files = {FOLDER / "stdin": calls, FOLDER / "stdout": results}
-    count = calls.count("\n")
-    if sys.argv[1:] == ["--check"]:
-        wrong = [path.name for path, text in files.items() if not path.exists() or path.read_text() != text]
-        if wrong:
-            sys.exit("float vectors: not as computed: " + ", ".join(wrong))
-        print("float vectors: %d, as computed" % count)
-    elif sys.argv[1:]:
-        sys.exit(__doc__)
-    else:
-        for path, text in files.items():
-            path.write_text(text)
-        print("float vectors: %d written" % count)
-
-
 if __name__ == "__main__":
-    main()
+    keep("float", *texts(), __doc__)

@@ -7,7 +7,8 @@ use lib.IntN.{pos}
 use lib.Ieee.{Float, add, div, ofInt, ofBits, round, binary32}
 use Rattle.ieee.specs.Literal.{zero32}
 use Rattle.curve.specs.declared.Point.{Point}
-use Rattle.curve.specs.Curve.{_⊕_, distance, evalQuad, evalCubic, stepOf, quadPoint, cubicPoint, chords, quadLengthAfter, cubicLengthAfter, quadLength, cubicLength}
+use Rattle.ieee.specs.Operators.{_⊕_}
+use Rattle.curve.specs.Curve.{distance, evalQuad, evalCubic, stepOf, quadPoint, cubicPoint, chords, quadLengthAfter, cubicLengthAfter, quadLength, cubicLength}
 
 -- n of the chords are added up, and the last of them ended at `previous`
 pub record Walked (point : ℕ → Point) (steps n : ℕ) (length : Float) (previous : Point) : Type 0 where

@@ -9,7 +9,8 @@ use Rattle.ieee.specs.Literal.{one32}
 use Rattle.ieee.specs.Fused.{fma}
 use Rattle.ieee.specs.Root.{hypotOf}
 use Rattle.curve.specs.declared.Point.{Point}
-use Rattle.curve.specs.Curve.{_⊖_, _⊗_, two32, three32, squared, cubed, distance, quadAt, evalQuad, cubicAt, evalCubic}
+use Rattle.ieee.specs.Operators.{_⊖_, _⊗_}
+use Rattle.curve.specs.Curve.{two32, three32, squared, cubed, distance, quadAt, evalQuad, cubicAt, evalCubic}
 use Rattle.curve.proofs.Chords.{chordwise}
 
 pub distance-is : (a b : Point) (r : Float) → r ≡ hypotOf binary32 (b .x ⊖ a .x) (b .y ⊖ a .y) → r ≡ distance a b

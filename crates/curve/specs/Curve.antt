@@ -1,23 +1,12 @@
 -- The length of a curve by chords: `eval_quad`, `eval_cubic`, `approx_quad_length` and `approx_cubic_length` of drawing_paths.rs, and `distance` of values.rs. Definitions only.
 use Prim.Native.Nat.{ℕ, zero, suc}
 use lib.IntN.{pos}
-use lib.Ieee.{Float, add, sub, mul, div, ofInt, ofBits, binary32}
+use lib.Ieee.{Float, div, ofInt, ofBits, binary32}
 use Rattle.ieee.specs.Literal.{zero32, one32}
+use Rattle.ieee.specs.Operators.{_⊕_, _⊖_, _⊗_}
 use Rattle.ieee.specs.Fused.{fma}
 use Rattle.ieee.specs.Root.{hypotOf}
 use Rattle.curve.specs.declared.Point.{Point}
-
-infixl 65 _⊕_ _⊖_
-infixl 70 _⊗_
--- the f32 operators
-abbrev pub _⊕_ : Float → Float → Float
-x ⊕ y = add binary32 x y
-
-abbrev pub _⊖_ : Float → Float → Float
-x ⊖ y = sub binary32 x y
-
-abbrev pub _⊗_ : Float → Float → Float
-x ⊗ y = mul binary32 x y
 
 -- 2.0
 abbrev pub two32 : Float

@@ -16,6 +16,7 @@ use Rattle.command.specs.declared.Refusal.{Refusal}
 use Rattle.command.specs.declared.Refusal.the-variants.{Empty, TooMany, OutOfRange, Unlisted, Unsupported, OutOfBounds}
 use Rattle.command.specs.declared.Drawn.{Drawn}
 use Rattle.command.specs.Refusals.{refusalNumber}
+use Rattle.command.proofs.Buffers.{unfilled}
 use Rattle.command.specs.Outcomes.{Outcome, Filled, refused, drawn, fitted, drawnNumber, drawnCodes, drawnNumbers}
 use Rattle.rect.specs.declared.Corners.{Corners}
 use Rattle.rect.specs.Rect.{rectCorners}
@@ -284,7 +285,7 @@ module _ (k : Checked) (v : List Float) where
       → Filled (fitted (length codes) (length numbers) (outcomeOf k v)) (refusalNumber r) 0 0 codes codes numbers numbers
   unfolding outcomeOf fitted
   fault-refused codes numbers r is =
-      rw is (record { number-is = refl; codes-count = refl; numbers-count = refl; codes-filled = refl; numbers-filled = refl })
+      rw is (unfilled r codes numbers)
 
   module _ (place : ℕ) (s : Shape) (is : k ≡ Sound place s) where
     ready-sound : Ready k v → (place ≤ length v) × Fit s (drop place v)

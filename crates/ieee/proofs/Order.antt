@@ -64,13 +64,6 @@ over-top (inf true) h = absurd h
 over-top (inf false) h = refl
 over-top (fin s m e) h = absurd h
 
-under-bottom : (x : Float) → T (le x (inf true)) → x ≡ inf true
-unfolding le
-under-bottom nan h = absurd h
-under-bottom (inf true) h = refl
-under-bottom (inf false) h = absurd h
-under-bottom (fin s m e) h = absurd h
-
 -- ---- the order
 pub le-refl : (x : Float) → T (isNumber x) → T (le x x)
 unfolding le

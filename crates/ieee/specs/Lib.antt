@@ -1,5 +1,6 @@
 -- The arithmetic that `lib.Ieee` leaves out, and exact multiples. One definition a rule, each total and computable.
 pub mod Literal
+pub mod Operators
 pub mod Sign
 pub mod Choice
 pub mod Limit

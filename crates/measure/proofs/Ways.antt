@@ -5,7 +5,8 @@ use Rattle.ieee.specs.Literal.{zero32}
 use Rattle.command.specs.declared.PathCommand.{PathCommand}
 use Rattle.command.specs.declared.PathCommand.the-variants.{Move, Line, Cubic, Close, Quad}
 use Rattle.curve.specs.declared.Point.{Point}
-use Rattle.curve.specs.Curve.{_⊕_, distance, quadLength, cubicLength}
+use Rattle.ieee.specs.Operators.{_⊕_}
+use Rattle.curve.specs.Curve.{distance, quadLength, cubicLength}
 use Rattle.measure.specs.declared.Place.{Place}
 use Rattle.measure.specs.declared.Place.the-variants.{Nowhere, At}
 use Rattle.measure.specs.declared.Pen.{Pen}

@@ -20,7 +20,8 @@ use Rattle.ieee.proofs.Limits.{twin-le-small}
 use Rattle.command.specs.Enlarged.{Twins}
 use Rattle.command.proofs.Enlarged.{twin-close, twin-move, twin-line, twin-cubic, twins-none, twins-cons, twins-choice}
 use Rattle.rect.specs.declared.Corners.{Corners}
-use Rattle.rect.specs.Rect.{_⊕_, _⊖_, half, roundRectKappa, epsilon, rectCorners, tangentOf, plainRect, roundRect, rectPath}
+use Rattle.ieee.specs.Operators.{_⊕_, _⊖_}
+use Rattle.rect.specs.Rect.{half, roundRectKappa, epsilon, rectCorners, tangentOf, plainRect, roundRect, rectPath}
 
 -- ---- the constants
 half-on : On 1 0 half

@@ -14,7 +14,8 @@ use Rattle.command.specs.declared.PathCommand.{PathCommand}
 use Rattle.command.specs.declared.PathCommand.the-variants.{Close}
 use Rattle.command.proofs.Passes.{closes}
 use Rattle.rect.specs.declared.Corners.{Corners}
-use Rattle.rect.specs.Rect.{_⊕_, half, epsilon, rectCorners, plainRect, roundRect, rectPath}
+use Rattle.ieee.specs.Operators.{_⊕_}
+use Rattle.rect.specs.Rect.{half, epsilon, rectCorners, plainRect, roundRect, rectPath}
 
 -- ---- rect_corners
 pub corners-are : (cx cy w h roundness width height left top small radius : Float)

@@ -1,22 +1,15 @@
 -- A rectangle's corners and commands: `build_rect_path` after sampling, and `build_round_rect_path`, of drawing_paths.rs. Definitions only.
 use mathlib.Core.Bool.{cond}
 use mathlib.Core.List.{List, [], _∷_}
-use lib.Ieee.{Float, le, add, sub, mul, neg, ofBits, binary32}
+use lib.Ieee.{Float, le, neg, ofBits, binary32}
 use Rattle.ieee.specs.Literal.{zero32}
+use Rattle.ieee.specs.Operators.{_⊕_, _⊖_, _⊗_}
 use Rattle.ieee.specs.Sign.{abs}
 use Rattle.ieee.specs.Choice.{min, clamp}
 use Rattle.ieee.specs.Fused.{fma}
 use Rattle.command.specs.declared.PathCommand.{PathCommand}
 use Rattle.command.specs.declared.PathCommand.the-variants.{Move, Line, Cubic, Close}
 use Rattle.rect.specs.declared.Corners.{Corners}
-
-infixl 65 _⊕_ _⊖_
--- the f32 operators
-abbrev pub _⊕_ : Float → Float → Float
-x ⊕ y = add binary32 x y
-
-abbrev pub _⊖_ : Float → Float → Float
-x ⊖ y = sub binary32 x y
 
 -- 0.5
 abbrev pub half : Float
@@ -41,7 +34,7 @@ rectCorners cx cy w h roundness =
       top = top;
       right = left ⊕ abs w;
       bottom = top ⊕ abs h;
-      radius = clamp zero32 (mul binary32 (min (abs w) (abs h)) half) roundness;
+      radius = clamp zero32 (min (abs w) (abs h) ⊗ half) roundness;
     }
 
 -- sharp corners
@@ -51,7 +44,7 @@ plainRect c =
 
 -- how far a corner's control points stand from its ends
 abbrev pub tangentOf : Corners → Float
-tangentOf c = mul binary32 (c .radius) roundRectKappa
+tangentOf c = c .radius ⊗ roundRectKappa
 
 -- round corners, in the order of `build_round_rect_path`
 unfoldable pub roundRect : Corners → List PathCommand

@@ -18,7 +18,8 @@ use Rattle.command.specs.Commands.{coordinatesOf, codesOf, numbersOf}
 use Rattle.command.specs.Outcomes.{Filled, Outcome, drawn, fitted}
 use Rattle.command.proofs.Passes.{counts, codes-length, numbers-few}
 use Rattle.command.proofs.Writes.{writes}
-use Rattle.command.proofs.Buffers.{sets-onto}
+use Rattle.command.proofs.Buffers.{sets-onto, unfilled}
+use Rattle.command.specs.declared.Refusal.the-variants.{BufferTooSmall}
 use Rattle.path.specs.Path.{pathCommands, bezierPath, verticesOf, bezierCount, Sound}
 use Rattle.path.proofs.Paths.{pathCommands-length}
 use Rattle.path.proofs.Counts.{path-numbers}
@@ -99,7 +100,7 @@ module _ (cs : List PathCommand) (codes : List ℕ) (numbers : List Float) (n : 
   unfolding fitted
   codes-short h =
       rw (lt-leb (length (codesOf cs)) (length codes) (omega (arith, codes-length cs)))
-      (record { number-is = refl; codes-count = refl; numbers-count = refl; codes-filled = refl; numbers-filled = refl })
+      (unfilled BufferTooSmall codes numbers)
 
   module _ (h : n ≤ length codes) (t : Bool) (t-is : t ≡ leb (length (numbersOf cs)) (length numbers)) where
     abbrev codes-room : length (codesOf cs) ≤ length codes
@@ -109,7 +110,7 @@ module _ (cs : List PathCommand) (codes : List ℕ) (numbers : List Float) (n : 
     unfolding fitted
     numbers-short e =
         rw (le-leb (length (codesOf cs)) (length codes) codes-room, ← t-is, e)
-        (record { number-is = refl; codes-count = refl; numbers-count = refl; codes-filled = refl; numbers-filled = refl })
+        (unfilled BufferTooSmall codes numbers)
 
     pub codes-fit : 0 + length (codesOf cs) ≤ length codes
     codes-fit = omega (arith, codes-length cs)
