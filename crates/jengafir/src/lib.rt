@@ -11,6 +11,9 @@ ghost use Rattle.ieee.specs.Root.{hypotOf};
 ghost use Rattle.command.specs.Outcomes.{Filled, fitted};
 ghost use Rattle.draw.specs.Paths.{drawPath};
 ghost use Rattle.draw.specs.Items.{drawItem};
+ghost use Rattle.judge.specs.Lists.{Located, findCommand};
+ghost use Rattle.length.specs.Lists.{Told, measureList};
+use length::Measured;
 
 #[no_mangle]
 pub extern "C" fn jengafir_mul_add(a: f32, b: f32, c: f32) -> f32
@@ -100,4 +103,33 @@ pub extern "C" fn jengafir_draw_item(
     *codes_written = command::drawn_codes(drawn);
     *numbers_written = command::drawn_numbers(drawn);
     command::drawn_number(drawn)
+}
+
+#[no_mangle]
+pub extern "C" fn jengafir_length(codes: &[u8], numbers: &[f32], length: &mut f32) -> u32
+    ensures { λ r. ⌜ Told (measureList (now (codes .entry)) (now (numbers .entry))) r (now (length .entry)) (now (length .exit)) ⌝ }
+{
+    match length::path_length(codes, numbers) {
+        Measured::Refused(refusal) => command::refusal_number(refusal),
+        Measured::Length(x) => {
+            *length = x;
+            0
+        }
+    }
+}
+
+#[no_mangle]
+pub extern "C" fn jengafir_command(
+    codes: &[u8],
+    numbers: &[f32],
+    k: usize,
+    start: &mut usize,
+    count: &mut usize,
+) -> u32
+    ensures { λ r. ⌜ Located (findCommand (now (codes .entry)) (now (numbers .entry)) k) r (now (start .exit)) (now (count .exit)) ⌝ }
+{
+    let found = judge::find_command(codes, numbers, k);
+    *start = judge::found_start(found);
+    *count = judge::found_count(found);
+    judge::found_number(found)
 }

@@ -1,23 +1,24 @@
 -- Commands that are written as codes and numbers read back as themselves, and a sound list is its commands written so.
 -- Assumes nothing.
 use mathlib.Core.Path.{_≡_, refl, sym, ap, _∙_}
-use mathlib.Core.Bool.{Bool, true, false, _&&_, true≢false}
-use mathlib.Core.List.{List, [], _∷_, _++_}
+use mathlib.Core.Bool.{Bool, true, false, cond, _&&_, true≢false}
+use mathlib.Core.List.{List, [], _∷_, _++_, append-nil}
 use Prim.Native.Nat.{ℕ, zero, suc, _+_, _≤_}
 use native.Mathlib.Omega.{arith}
 use lib.Ieee.{Float}
 use lib.ListN.{length, take, drop, length-append, take-append-drop}
 use lib.Seq.{take-append-seam, drop-append-seam}
+use lib.Dec.{ltb}
 use borrow.Author.Tests.{le-ltb}
 use Rattle.ieee.specs.Limit.{within, allWithin}
 use Rattle.command.specs.declared.PathCommand.{PathCommand}
 use Rattle.command.specs.declared.PathCommand.the-variants.{Move, Line, Cubic, Close, Quad}
 use Rattle.command.specs.Commands.{codeOf, coordinatesOf, codesOf, numbersOf}
-use Rattle.command.specs.declared.Refusal.the-variants.{OutOfBounds}
+use Rattle.command.specs.declared.Refusal.the-variants.{TooMany, OutOfBounds}
 use Rattle.command.specs.Enlarged.{commandLimit}
 use Rattle.command.specs.Outcomes.{Outcome, refused, drawn, commandsOf}
 use Rattle.judge.specs.declared.Judged.the-variants.{Sound}
-use Rattle.judge.specs.Lists.{sizeOfCode, commandAt, before, readList, judgedOf}
+use Rattle.judge.specs.Lists.{sizeOfCode, commandAt, before, readList, judgeList, judgedOf}
 use Rattle.judge.proofs.Ways.{left-over, fault-sound, sound-splits}
 
 pub size-of : (c : PathCommand) → sizeOfCode (codeOf c) ≡ length (coordinatesOf c)
@@ -112,10 +113,24 @@ coordinates-at (suc (suc (suc (suc zero)))) (x0 ∷ x1 ∷ x2 ∷ []) h l = absu
 coordinates-at (suc (suc (suc (suc zero)))) (x0 ∷ x1 ∷ x2 ∷ x3 ∷ v) h l = refl
 coordinates-at (suc (suc (suc (suc (suc c))))) v h l = absurd (omega arith)
 
+-- it reads no number past its own
+pub command-part : (c : ℕ) (v : List Float) → c ≤ 4 → sizeOfCode c ≤ length v → commandAt c (take (sizeOfCode c) v) ≡ commandAt c v
+command-part c v h l =
+    sym (λ i. commandAt (code-at c v h i) (coordinates-at c v h l i))
+    ∙ ap (commandAt (codeOf (commandAt c v))) (sym (append-nil (coordinatesOf (commandAt c v))))
+    ∙ command-of (commandAt c v) []
+
 -- the commands of an outcome, and one more before them
 commands-before : (c : PathCommand) (o : Outcome) → judgedOf o ≡ Sound → commandsOf (before c o) ≡ c ∷ commandsOf o
 commands-before c (refused r) e = fault-sound r (unfold judgedOf in e)
 commands-before c (drawn cs) e = unfold before in refl
+
+-- a sound list is its first command, and the commands of the rest
+pub sound-commands : (c : ℕ) (cs : List ℕ) (v : List Float) → judgedOf (readList (c ∷ cs) v) ≡ Sound
+    → commandsOf (readList (c ∷ cs) v) ≡ commandAt c v ∷ commandsOf (readList cs (drop (sizeOfCode c) v))
+sound-commands c cs v e =
+    let s = sound-splits c cs v e in
+    ap commandsOf (read-first c cs v (s .0) (s .1) (s .2)) ∙ commands-before (commandAt c v) (readList cs (drop (sizeOfCode c) v)) (s .3)
 
 pub sound-written : (codes : List ℕ) (v : List Float) → judgedOf (readList codes v) ≡ Sound
     → (codesOf (commandsOf (readList codes v)) ≡ codes) × (numbersOf (commandsOf (readList codes v)) ≡ v)
@@ -126,11 +141,19 @@ sound-written (c ∷ cs) v e =
     let rest : List Float = drop (sizeOfCode c) v in
     let o : Outcome = readList cs rest in
     let i = sound-written cs rest (s .3) in
-    let is : commandsOf (readList (c ∷ cs) v) ≡ commandAt c v ∷ commandsOf o
-    = ap commandsOf (read-first c cs v (s .0) (s .1) (s .2)) ∙ commands-before (commandAt c v) o (s .3) in (
+    let is = sound-commands c cs v e in (
       ap codesOf is ∙ ap (λ (n : ℕ). n ∷ codesOf (commandsOf o)) (code-at c v (s .0)) ∙ ap (λ (l : List ℕ). c ∷ l) (i .0),
       ap numbersOf is
           ∙ ap (λ (l : List Float). l ++ numbersOf (commandsOf o)) (coordinates-at c v (s .0) (s .1))
           ∙ ap (λ (l : List Float). take (sizeOfCode c) v ++ l) (i .1)
           ∙ take-append-drop (sizeOfCode c) v,
     )
+
+-- a sound list is not too long, so judging it is reading it
+pub sound-read : (codes : List ℕ) (v : List Float) → judgedOf (judgeList codes v) ≡ Sound → judgeList codes v ≡ readList codes v
+unfolding judgeList
+sound-read codes v e = go (ltb 262144 (length codes)) e
+  where
+    go : (b : Bool) → judgedOf (cond b (refused TooMany) (readList codes v)) ≡ Sound → cond b (refused TooMany) (readList codes v) ≡ readList codes v
+    go true e = fault-sound TooMany (unfold judgedOf in e)
+    go false e = refl

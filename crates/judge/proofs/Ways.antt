@@ -21,7 +21,9 @@ use Rattle.command.specs.Refusals.{refusalNumber}
 use Rattle.command.specs.Outcomes.{Outcome, refused, drawn, numberOf}
 use Rattle.judge.specs.declared.Judged.{Judged}
 use Rattle.judge.specs.declared.Judged.the-variants.{Fault, Sound}
-use Rattle.judge.specs.Lists.{sizeOfCode, commandAt, before, readList, judgeList, judgedOf, placeOf, askedFor, judgeCommand, commandFault, partOf, commandPart}
+use Rattle.judge.specs.declared.Found.{Found}
+use Rattle.judge.specs.declared.Found.the-variants.{Refused, At}
+use Rattle.judge.specs.Lists.{sizeOfCode, commandAt, before, readList, judgeList, judgedOf, placeOf, askedFor, judgeCommand, foundOf, findCommand, foundNumber, foundStart, foundCount, commandFault, partOf, commandPart}
 
 -- ---- size_of_code
 module _ (c : ℕ) where
@@ -242,33 +244,7 @@ module _ (codes : List ℕ) where
 
 pub ruleset places = (place-start, place-end, place-next, place-room)
 
--- ---- command_fault
--- `numberOf` reads none either
-unfoldable faultOf : Judged → ℕ
-faultOf (Fault r) = refusalNumber r
-faultOf Sound = 0
-
-fault-judged : (o : Outcome) → faultOf (judgedOf o) ≡ numberOf o
-unfolding faultOf judgedOf
-fault-judged (refused r) = refl
-fault-judged (drawn cs) = refl
-
-module _ (codes : List ℕ) (numbers : List Float) (k : ℕ) (j : Judged) (j-is : j ≡ judgedOf (judgeCommand codes numbers k)) where
-  fault-is : faultOf j ≡ commandFault codes numbers k
-  unfolding commandFault
-  fault-is = ap faultOf j-is ∙ fault-judged (judgeCommand codes numbers k)
-
-  pub fault-number : (r : Refusal) (n : ℕ) → n ≡ refusalNumber r → j ≡ Fault r → n ≡ commandFault codes numbers k
-  unfolding faultOf
-  fault-number r n n-is e = n-is ∙ ap faultOf (sym e) ∙ fault-is
-
-  pub fault-none : j ≡ Sound → 0 ≡ commandFault codes numbers k
-  unfolding faultOf
-  fault-none e = ap faultOf (sym e) ∙ fault-is
-
-pub ruleset faults = (fault-number, fault-none)
-
--- ---- command_part
+-- ---- sound lists
 abbrev IsSound : Judged → Type 0
 IsSound (Fault r) = ⊥
 IsSound Sound = Unit {0}
@@ -306,16 +282,6 @@ sound-inside (c ∷ cs) v (suc k) d e h =
     let f = s .1 in
     omega arith
 
--- `partOf` reads no command either
-unfoldable partOfJudged : Judged → List Float → List Float
-partOfJudged (Fault r) v = []
-partOfJudged Sound v = v
-
-part-judged : (o : Outcome) (v : List Float) → partOfJudged (judgedOf o) v ≡ partOf o v
-unfolding partOfJudged judgedOf partOf
-part-judged (refused r) v = refl
-part-judged (drawn cs) v = refl
-
 -- inside a list no default is read
 getD-any : (l : List ℕ) (i d d' : ℕ) → i < length l → getD l i d ≡ getD l i d'
 getD-any [] i d d' h = absurd (omega arith)
@@ -343,17 +309,28 @@ command-splits codes numbers k e =
     go true o e = fault-sound TooMany (unfold judgedOf askedFor in e)
     go false o e = let s = asks o e in (refl, s .0, s .1)
 
+-- ---- find_command
+-- `foundOf` reads no command of the outcome either
+unfoldable foundAs : Judged → ℕ → ℕ → Found
+foundAs (Fault r) start count = Refused r
+foundAs Sound start count = At start count
+
+found-as : (o : Outcome) (start count : ℕ) → foundAs (judgedOf o) start count ≡ foundOf o start count
+unfolding foundAs judgedOf foundOf
+found-as (refused r) start count = refl
+found-as (drawn cs) start count = refl
+
 module _ (codes : List ℕ) (numbers : List Float) (k : ℕ) (j : Judged) (j-is : j ≡ judgedOf (judgeCommand codes numbers k)) where
-  abbrev part : List Float
-  part = take (sizeOfCode (getD codes k 3)) (drop (placeOf k codes) numbers)
+  abbrev found : Judged → Found
+  found x = foundAs x (placeOf k codes) (sizeOfCode (getD codes k 3))
 
-  part-is : partOfJudged j part ≡ commandPart codes numbers k
-  unfolding commandPart
-  part-is = ap (λ (x : Judged). partOfJudged x part) j-is ∙ part-judged (judgeCommand codes numbers k) part
+  found-is : found j ≡ findCommand codes numbers k
+  unfolding findCommand
+  found-is = ap found j-is ∙ found-as (judgeCommand codes numbers k) (placeOf k codes) (sizeOfCode (getD codes k 3))
 
-  pub part-none : (r : Refusal) → j ≡ Fault r → [] ≡ commandPart codes numbers k
-  unfolding partOfJudged
-  part-none r e = ap (λ (x : Judged). partOfJudged x part) (sym e) ∙ part-is
+  pub find-refused : (r : Refusal) → j ≡ Fault r → Refused r ≡ findCommand codes numbers k
+  unfolding foundAs
+  find-refused r e = ap found (sym e) ∙ found-is
 
   module _ (e : j ≡ Sound) where
     splits : (length codes ≤ 262144) × (judgedOf (readList codes numbers) ≡ Sound) × (k < length codes)
@@ -368,31 +345,73 @@ module _ (codes : List ℕ) (numbers : List Float) (k : ℕ) (j : Judged) (j-is 
     pub command-inside : k ≤ length codes
     command-inside = let h = command-there in omega arith
 
-    pub part-start-fits : (place : ℕ) → place ≡ placeOf k codes → place * 4 < 18446744073709551616
-    part-start-fits place e =
-        let f = command-few in
-        let h = command-there in
+    pub find-at : (place n : ℕ) → place ≡ placeOf k codes → n ≡ sizeOfCode (getD codes k 0) → At place n ≡ findCommand codes numbers k
+    unfolding foundAs
+    find-at place n place-is n-is =
+        (λ i. At (place-is i) ((n-is ∙ ap sizeOfCode (getD-any codes k 0 3 command-there)) i))
+        ∙ ap found (sym e)
+        ∙ found-is
+
+pub ruleset finding = (find-refused, command-few, command-there, command-inside, find-at)
+
+-- ---- command_fault, command_part
+abbrev IsFound : Found → Type 0
+IsFound (Refused r) = ⊥
+IsFound (At start count) = Unit {0}
+
+-- `numberOf` and `partOf` read no command either
+pub number-found : (o : Outcome) (start count : ℕ) → foundNumber (foundOf o start count) ≡ numberOf o
+unfolding foundOf
+number-found (refused r) start count = refl
+number-found (drawn cs) start count = refl
+
+part-refused : (o : Outcome) (start count : ℕ) (v : List Float) (r : Refusal) → foundOf o start count ≡ Refused r → partOf o v ≡ []
+unfolding partOf foundOf
+part-refused (refused r) start count w r' e = refl
+part-refused (drawn cs) start count w r' e = absurd (subst IsFound e tt)
+
+found-splits : (o : Outcome) (start count start' count' : ℕ) → foundOf o start count ≡ At start' count'
+    → (judgedOf o ≡ Sound) × (start ≡ start') × (count ≡ count') × ((v : List Float) → partOf o v ≡ v)
+unfolding foundOf
+found-splits (refused r) start count start' count' e = absurd (subst IsFound (sym e) tt)
+found-splits (drawn cs) start count start' count' e = (unfold judgedOf in refl, ap foundStart e, ap foundCount e, λ v. unfold partOf in refl)
+
+module _ (codes : List ℕ) (numbers : List Float) (k : ℕ) (f : Found) (f-is : f ≡ findCommand codes numbers k) where
+  pub fault-number : (n : ℕ) → n ≡ foundNumber f → n ≡ commandFault codes numbers k
+  unfolding commandFault findCommand
+  fault-number n n-is = n-is ∙ ap foundNumber f-is ∙ number-found (judgeCommand codes numbers k) (placeOf k codes) (sizeOfCode (getD codes k 3))
+
+  pub part-none : (r : Refusal) → f ≡ Refused r → [] ≡ commandPart codes numbers k
+  unfolding commandPart findCommand
+  part-none r e =
+      sym (part-refused (judgeCommand codes numbers k) (placeOf k codes) (sizeOfCode (getD codes k 3)) (take (sizeOfCode (getD codes k 3)) (drop (placeOf k codes) numbers)) r (sym f-is ∙ e))
+
+  module _ (start count : ℕ) (e : f ≡ At start count) where
+    found-at : (judgedOf (judgeCommand codes numbers k) ≡ Sound) × (placeOf k codes ≡ start) × (sizeOfCode (getD codes k 3) ≡ count) × ((v : List Float) → partOf (judgeCommand codes numbers k) v ≡ v)
+    unfolding findCommand
+    found-at = found-splits (judgeCommand codes numbers k) (placeOf k codes) (sizeOfCode (getD codes k 3)) start count (sym f-is ∙ e)
+
+    pub part-inside : start + count ≤ length numbers
+    part-inside =
+        let s = command-splits codes numbers k (found-at .0) in
+        rw (← found-at .1, ← found-at .2) (sound-inside codes numbers k 3 (s .1) (s .2))
+
+    pub part-start-fits : start * 4 < 18446744073709551616
+    part-start-fits =
+        let s = command-splits codes numbers k (found-at .0) in
+        let few = s .0 in
+        let there = s .2 in
+        let is = found-at .1 in
         omega (arith, place-most k codes)
 
-    module _ (place : ℕ) (place-is : place ≡ placeOf k codes) (n : ℕ) (n-is : n ≡ sizeOfCode (getD codes k 0)) where
-      pub part-inside : place + n ≤ length numbers
-      part-inside = rw (place-is, n-is) (sound-inside codes numbers k 0 (splits .1) command-there)
+    pub part-fits : length numbers < 18446744073709551616 → start + count < 18446744073709551616
+    part-fits l = let h = part-inside in omega arith
 
-      pub part-end-fits : place + n < 18446744073709551616
-      part-end-fits =
-          let f = command-few in
-          let h = command-there in
-          omega (arith, place-most k codes, size-most (getD codes k 0))
+    pub part-sound : take (start + count - start) (drop start numbers) ≡ commandPart codes numbers k
+    unfolding commandPart
+    part-sound =
+        ap (λ (m : ℕ). take m (drop start numbers)) (add-sub-cancel-left start count)
+        ∙ sym (λ i. take (found-at .2 i) (drop (found-at .1 i) numbers))
+        ∙ sym (found-at .3 (take (sizeOfCode (getD codes k 3)) (drop (placeOf k codes) numbers)))
 
-      size-is : place + n - place ≡ sizeOfCode (getD codes k 3)
-      size-is = let d = getD-any codes k 0 3 command-there in add-sub-cancel-left place n ∙ n-is ∙ ap sizeOfCode d
-
-      pub part-sound : take (place + n - place) (drop place numbers) ≡ commandPart codes numbers k
-      unfolding partOfJudged
-      part-sound =
-          ap (λ (m : ℕ). take m (drop place numbers)) size-is
-          ∙ ap (λ (m : ℕ). take (sizeOfCode (getD codes k 3)) (drop m numbers)) place-is
-          ∙ ap (λ (x : Judged). partOfJudged x part) (sym e)
-          ∙ part-is
-
-pub ruleset parts = (part-none, command-few, command-there, command-inside, part-start-fits, part-end-fits, part-inside, part-sound)
+pub ruleset parts = (fault-number, part-none, part-inside, part-start-fits, part-fits, part-sound)

@@ -1,5 +1,6 @@
 -- A command list as codes and numbers: the order of its checks, its commands, and the numbers of one command. Definitions only.
 use Prim.Native.Nat.{ℕ, zero, suc, _+_}
+use mathlib.Core.Path.{_≡_}
 use mathlib.Core.Bool.{cond}
 use mathlib.Core.List.{List, [], _∷_}
 use lib.Dec.{eqb, ltb}
@@ -10,9 +11,12 @@ use Rattle.command.specs.declared.PathCommand.{PathCommand}
 use Rattle.command.specs.declared.PathCommand.the-variants.{Move, Line, Cubic, Close, Quad}
 use Rattle.command.specs.declared.Refusal.the-variants.{TooMany, OutOfRange, Unlisted, OutOfBounds}
 use Rattle.command.specs.Enlarged.{commandLimit}
+use Rattle.command.specs.Refusals.{refusalNumber}
 use Rattle.command.specs.Outcomes.{Outcome, refused, drawn, numberOf}
 use Rattle.judge.specs.declared.Judged.{Judged}
 use Rattle.judge.specs.declared.Judged.the-variants.{Fault, Sound}
+use Rattle.judge.specs.declared.Found.{Found}
+use Rattle.judge.specs.declared.Found.the-variants.{Refused, At}
 
 -- how many numbers a command has: move 0 and line 1 two, cubic 2 six, close 3 none, quad 4 four
 unfoldable pub sizeOfCode : ℕ → ℕ
@@ -62,6 +66,33 @@ askedFor k count (drawn cs) = cond (ltb k count) (drawn cs) (refused OutOfBounds
 -- the list is judged as for its length, then command k is asked for
 unfoldable pub judgeCommand : List ℕ → List Float → ℕ → Outcome
 judgeCommand codes numbers k = askedFor k (length codes) (judgeList codes numbers)
+
+-- where the numbers of command k stand: the place of the first and how many they are, or the refusal
+unfoldable pub foundOf : Outcome → ℕ → ℕ → Found
+foundOf (refused r) start count = Refused r
+foundOf (drawn cs) start count = At start count
+
+unfoldable pub findCommand : List ℕ → List Float → ℕ → Found
+findCommand codes numbers k = foundOf (judgeCommand codes numbers k) (placeOf k codes) (sizeOfCode (getD codes k 3))
+
+-- what is handed back of it: the number, 0 where the command is found, and the two places, 0 for a refusal
+abbrev pub foundNumber : Found → ℕ
+foundNumber (Refused r) = refusalNumber r
+foundNumber (At start count) = 0
+
+abbrev pub foundStart : Found → ℕ
+foundStart (Refused r) = 0
+foundStart (At start count) = start
+
+abbrev pub foundCount : Found → ℕ
+foundCount (Refused r) = 0
+foundCount (At start count) = count
+
+-- The promise of a call that tells where they stand: the number and both places are those of the answer.
+pub record Located (f : Found) (number start count : ℕ) : Type 0 where
+  pub number-is : number ≡ foundNumber f
+  pub start-is : start ≡ foundStart f
+  pub count-is : count ≡ foundCount f
 
 -- the number that tells why there is no part: 0 where there is one
 unfoldable pub commandFault : List ℕ → List Float → ℕ → ℕ

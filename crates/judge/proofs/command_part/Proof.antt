@@ -4,8 +4,8 @@ use Rattle.judge.proofs.Ways.{parts}
 use Rattle.judge.proofs.command_part.Statement.{statement}
 use Rattle.judge.proofs.command_part.Tie as tie
 
-judge-command-requires : tie.Need-judge-command-requires
-judge-command-requires c κs = search (needs, parts)
+find-command-requires : tie.Need-find-command-requires
+find-command-requires c κs = search (needs, parts)
 
 enum-told : tie.Need-enum-told
 enum-told c = search (needs, parts)
@@ -13,17 +13,8 @@ enum-told c = search (needs, parts)
 slice-aggregate-result : tie.Need-slice-aggregate-result
 slice-aggregate-result c = search (needs, parts)
 
-enum-told-2 : tie.Need-enum-told-2
-enum-told-2 c = search (needs, parts)
-
-place-of-requires : tie.Need-place-of-requires
-place-of-requires c κs = search (needs, parts)
-
-shared-slice-read-size-of-code : tie.Need-shared-slice-read-size-of-code
-shared-slice-read-size-of-code c = search (needs, parts)
-
-size-of-code-requires : tie.Need-size-of-code-requires
-size-of-code-requires c κs = search (needs, parts)
+enum-known-start : tie.Need-enum-known-start
+enum-known-start c = search (needs, parts)
 
 add-result : tie.Need-add-result
 add-result c = search (needs, parts)
@@ -50,13 +41,10 @@ pub command-part-spec : {M : Type 1} → statement M
 command-part-spec =
     tie.close
     (tie.spec
-    judge-command-requires
+    find-command-requires
     enum-told
     slice-aggregate-result
-    enum-told-2
-    place-of-requires
-    shared-slice-read-size-of-code
-    size-of-code-requires
+    enum-known-start
     add-result
     mul-result
     sub-result

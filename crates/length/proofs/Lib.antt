@@ -1,0 +1,3 @@
+-- What the proofs of `length` cite, and closed cases.
+pub mod Ways
+mod Cases

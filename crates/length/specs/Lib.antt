@@ -1,0 +1,2 @@
+-- The length of a lent command list.
+pub mod Lists
