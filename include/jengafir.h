@@ -1,4 +1,4 @@
-/* The C interface of Jengafir: shapes drawn as path commands, and binary32 arithmetic. */
+/* The C interface of Jengafir: shapes drawn as path commands, paths measured, and binary32 arithmetic. */
 #ifndef JENGAFIR_H
 #define JENGAFIR_H
 
@@ -67,6 +67,26 @@ uint32_t jengafir_draw_path(uint32_t closed, const float *vertices, size_t verti
 uint32_t jengafir_draw_item(const uint32_t *row, size_t row_len, const float *items, size_t items_len,
                             uint8_t *codes, size_t codes_len, float *numbers, size_t numbers_len,
                             size_t *codes_written, size_t *numbers_written);
+
+/* Of every call that reads a command list: the list is its codes and the numbers of all its commands, in order. No
+   pointer is null, and a place that is lent for writing overlaps nothing else that is lent.
+   A list has at most 262,144 commands, and every number is at most 4,194,304 in absolute value; an empty list is
+   legal. A list is refused with 2 if it is longer; else by its first faulty command, with 4 for its code, 12 if the
+   list has not all of its numbers, or 3; and else with 12 if numbers are left over. What jengafir_draw_path and
+   jengafir_draw_item write is never refused. */
+
+/* Puts the length of a path down in `length`: 32 chords a cubic, 24 a quad, and a close back to where its contour
+   started. Without a point to come from, a line or a curve adds nothing; it sets the point, and its contour has no
+   start. A close without a start adds nothing and clears the point.
+   On a refusal `length` keeps its content. */
+uint32_t jengafir_length(const uint8_t *codes, size_t codes_len, const float *numbers, size_t numbers_len,
+                         float *length);
+
+/* Tells where the numbers of command `k` stand in the list: the first place and how many there are, which for a close
+   is none. The first command is 0. Refuses a sound list that has no command `k` with 12.
+   On a refusal both are 0. */
+uint32_t jengafir_command(const uint8_t *codes, size_t codes_len, const float *numbers, size_t numbers_len, size_t k,
+                          size_t *start, size_t *count);
 
 /* Each float function is defined for every float. */
 

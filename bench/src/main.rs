@@ -2,6 +2,8 @@
 
 #[cfg(drawing)]
 mod draw;
+#[cfg(drawing)]
+mod length;
 
 use std::hint::black_box;
 use std::time::Instant;
@@ -63,5 +65,8 @@ fn main() {
         println!("{name:9} {ours:7.2} {theirs:7.2} {:7.2}", ours / theirs);
     }
     #[cfg(drawing)]
-    draw::run();
+    {
+        draw::run();
+        length::run();
+    }
 }

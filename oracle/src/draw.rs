@@ -69,7 +69,7 @@ fn compare_edges(random: &mut Random, report: &mut Report, paths: &mut Outcomes,
 // What the call has to answer.
 
 /// The path that the Rust builds, or the refusal that comes before it is known whether the path fits.
-fn answer(input: &Input) -> Result<Path, u32> {
+pub fn answer(input: &Input) -> Result<Path, u32> {
     match input {
         Input::Path { closed, vertices, count } => path_answer(*closed, vertices, *count),
         Input::Item { row, numbers } => item_answer(row, numbers),
@@ -102,7 +102,7 @@ fn item_answer(row: &[u32], numbers: &[f32]) -> Result<Path, u32> {
     Ok(if is_path { bezier_path(mark, numbers) } else { rect_path(numbers) })
 }
 
-fn check(holds: bool, refusal: u32) -> Result<(), u32> {
+pub fn check(holds: bool, refusal: u32) -> Result<(), u32> {
     if holds { Ok(()) } else { Err(refusal) }
 }
 
@@ -250,7 +250,7 @@ fn shown_input(input: &Input) -> String {
     }
 }
 
-fn shown_list(list: &[f32]) -> String {
+pub fn shown_list(list: &[f32]) -> String {
     let first: Vec<String> = list.iter().take(30).map(|x| format!("{:08x}", x.to_bits())).collect();
     let rest = if list.len() > 30 { " .." } else { "" };
     format!("{} numbers ({}{rest})", list.len(), first.join(" "))

@@ -3,8 +3,13 @@
 #[cfg(drawing)]
 mod draw;
 mod float;
+#[cfg(drawing)]
+mod length;
+#[cfg(drawing)]
+mod lists;
 mod random;
 mod report;
+mod root;
 #[cfg(drawing)]
 mod shapes;
 
@@ -18,6 +23,8 @@ const PARTS: &[Part] = &[
     float::compare,
     #[cfg(drawing)]
     draw::compare,
+    #[cfg(drawing)]
+    length::compare,
 ];
 
 const SEED: u64 = 1;

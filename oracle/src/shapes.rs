@@ -32,7 +32,7 @@ pub fn edges() -> Vec<f32> {
     EDGES.iter().chain(&NEAR).map(|&bits| f32::from_bits(bits)).collect()
 }
 
-fn one_of(random: &mut Random, list: &[u32]) -> u32 {
+pub fn one_of(random: &mut Random, list: &[u32]) -> u32 {
     list[random.bits(32) as usize % list.len()]
 }
 

@@ -1,10 +1,44 @@
-//! The Rust's own drawing functions, cut by name out of its text, over stand-ins as document 01 has them.
+//! The Rust's own drawing and measuring functions, cut by name out of its text, over stand-ins as document 01 has them.
+
+mod root;
 
 /// What a builder hands over: the codes of the commands, and the numbers of all in one list.
 #[derive(Default)]
 pub struct Path {
     pub codes: Vec<u8>,
     pub numbers: Vec<f32>,
+}
+
+#[derive(Clone, Copy)]
+struct Point {
+    x: f32,
+    y: f32,
+}
+
+/// A command, with points.
+enum PathSegment {
+    MoveTo(Point),
+    LineTo(Point),
+    QuadTo(Point, Point),
+    CubicTo(Point, Point, Point),
+    Close,
+}
+
+impl Path {
+    /// The commands in order. The codes are listed, and each has its numbers.
+    fn segments(&self) -> impl Iterator<Item = PathSegment> + '_ {
+        let mut points = self.numbers.chunks(2).map(|p| Point { x: p[0], y: p[1] });
+        self.codes.iter().map(move |code| {
+            let mut next = || points.next().unwrap();
+            match code {
+                0 => PathSegment::MoveTo(next()),
+                1 => PathSegment::LineTo(next()),
+                2 => PathSegment::CubicTo(next(), next(), next()),
+                3 => PathSegment::Close,
+                _ => PathSegment::QuadTo(next(), next()),
+            }
+        })
+    }
 }
 
 /// Appends commands, and hands them over whatever they are.
@@ -130,14 +164,56 @@ mod values {
     }
 }
 
+/// An f32 whose `hypot` is document 01's, so that the Rust's `distance` can be compiled as it stands.
+mod exact {
+    use crate::root::quick_hypot;
+    use std::ops::Sub;
+
+    #[derive(Clone, Copy)]
+    pub struct Exact(pub f32);
+
+    impl Sub for Exact {
+        type Output = Exact;
+
+        fn sub(self, other: Exact) -> Exact {
+            Exact(self.0 - other.0)
+        }
+    }
+
+    impl Exact {
+        pub fn hypot(self, other: Exact) -> Exact {
+            Exact(quick_hypot(self.0, other.0))
+        }
+    }
+
+    mod text {
+        use super::Exact as f32;
+
+        include!("../../target/oracle/rust_text_values.rs");
+
+        pub fn exact_distance(a: [f32; 2], b: [f32; 2]) -> f32 {
+            distance(a, b)
+        }
+    }
+
+    pub fn distance(a: [f32; 2], b: [f32; 2]) -> f32 {
+        text::exact_distance(a.map(Exact), b.map(Exact)).0
+    }
+}
+
 mod drawing_paths {
+    use crate::exact::distance;
     use crate::values::{position_vec2_at, scalar_at, vec2_at};
-    use crate::{BezierPath, Path, PathBuilder, Rect, ShapeItem};
+    use crate::{BezierPath, Path, PathBuilder, PathSegment, Rect, ShapeItem};
 
     include!("../../target/oracle/rust_text.rs");
 
     pub fn rect_path(item: &ShapeItem) -> Option<Path> {
         build_rect_path(item, 0.0, None)
+    }
+
+    pub fn path_length(path: &Path) -> f32 {
+        approx_path_length(path)
     }
 }
 
@@ -149,4 +225,9 @@ pub fn bezier_path(path: &BezierPath) -> Option<Path> {
 /// The path of a rectangle.
 pub fn rect_path(item: &ShapeItem) -> Option<Path> {
     drawing_paths::rect_path(item)
+}
+
+/// The length of a path.
+pub fn path_length(path: &Path) -> f32 {
+    drawing_paths::path_length(path)
 }
