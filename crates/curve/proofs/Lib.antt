@@ -1,4 +1,5 @@
 -- What the proofs of `curve` cite, and closed cases.
 pub mod Chords
 pub mod Ways
+pub mod Enlarged
 mod Cases
