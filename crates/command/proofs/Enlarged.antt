@@ -6,7 +6,7 @@ use Prim.Native.Nat.{ℕ, zero, suc, _+_, _≤_, _<_}
 use native.Mathlib.Nat.{not-suc-le-zero, le-of-suc-le-suc, zero-lt-suc, le-refl}
 use native.Mathlib.Omega.{arith}
 use lib.Dec.{lit≤}
-use lib.ListN.{length, getD, length-map, List·getD-map}
+use lib.ListN.{length, getD, take, length-map, List·getD-map}
 use lib.Ieee.{Float, nan, ofBits}
 use lib.Ieee.Bits.{is-true}
 use lib.Ieee.Exact.{HasValue}
@@ -159,3 +159,18 @@ module _ {k q b : ℕ} where
 
 pub twins-weaken : (k q b q' b' : ℕ) (cs cs' : List PathCommand) → q ≤ q' → b ≤ b' → Twins k q b cs cs' → Twins k q' b' cs cs'
 twins-weaken k q b q' b' cs cs' Q B t = record { commands = t .commands; grid = all-weaken q b q' b' (numbersOf cs) Q B (t .grid) }
+
+-- ---- parts of a list
+pub all-split : (q b : ℕ) (xs ys : List Float) → AllOn q b (xs ++ ys) → AllOn q b xs × AllOn q b ys
+all-split q b [] ys A = (tt, A)
+all-split q b (x ∷ xs) ys A = let s = all-split q b xs ys (A .1) in ((A .0, s .0), s .1)
+
+pub twins-take : {k q b : ℕ} {cs cs' : List PathCommand} (n : ℕ) → Twins k q b cs cs' → Twins k q b (take n cs) (take n cs')
+twins-take {k} {q} {b} {cs} {cs'} n t = subst (λ (ds : List PathCommand). Twins k q b (take n cs) (take n ds)) (sym (t .commands)) (go n cs (t .grid))
+  where
+    go : (n : ℕ) (cs : List PathCommand) → AllOn q b (numbersOf cs) → Twins k q b (take n cs) (take n (map (enlarged k) cs))
+    go zero cs A = twins-none
+    go (suc n) [] A = twins-none
+    go (suc n) (c ∷ cs) A =
+        let s = all-split q b (coordinatesOf c) (numbersOf cs) A in
+        twins-cons (record { command = refl; grid = s .0 }) (go n cs (s .1))
