@@ -1,4 +1,5 @@
--- What the proofs of `judge` cite, and what its definitions say of written commands.
+-- What the proofs of `judge` cite, what its definitions say of written commands, and their enlargement.
 pub mod Ways
 pub mod Lists
 pub mod Parts
+pub mod Enlarged
