@@ -204,7 +204,7 @@ module _ (codes : List ℕ) (numbers : List Float) (k : ℕ) (j : Judged) (j-is 
 pub ruleset asking = (asked-fault, asked-sound, asked-missing)
 
 -- ---- place_of
-size-most : (c : ℕ) → sizeOfCode c ≤ 6
+pub size-most : (c : ℕ) → sizeOfCode c ≤ 6
 unfolding sizeOfCode
 size-most c = go (ltb c 2) (eqb c 2) (eqb c 4)
   where
