@@ -1,0 +1,4 @@
+pub mod Columns
+pub mod Lines
+pub mod Ways
+pub mod Cases

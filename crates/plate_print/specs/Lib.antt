@@ -1,0 +1,2 @@
+-- The text that the program `plate` prints.
+pub mod Lines
