@@ -9,7 +9,7 @@ use Rattle.ieee.proofs.Order.{le-number-l, le-number-r, le-refl, le-tra
 
 -- ---- not below c, and not above c
 module _ (c : Float) (number : T (isNumber c)) where
-  at-least-ge : (x : Float) → T (isNumber x) → T (le c (atLeast c x))
+  pub at-least-ge : (x : Float) → T (isNumber x) → T (le c (atLeast c x))
   unfolding atLeast
   at-least-ge x p = go (lt x c) refl
     where

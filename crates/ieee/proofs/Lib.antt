@@ -21,6 +21,7 @@ pub mod Choice
 pub mod Isqrt
 pub mod Root
 pub mod Hypot
+pub mod Bounds
 pub mod Pattern
 pub mod Wide
 mod Cases

@@ -21,7 +21,7 @@ use Rattle.ieee.proofs.Sum.{SumOf, sum-of, total-mul}
 use Rattle.ieee.proofs.Order.{le→Le, le-number-r, le-trans, neg-le, round-le, extend}
 
 -- ---- the literals
-zero-is : zero32 ≡ fin false 0 (pos 0)
+pub zero-is : zero32 ≡ fin false 0 (pos 0)
 unfolding ofBits ofFields odd trailingZeros
 zero-is = refl
 
