@@ -63,7 +63,7 @@ enlarged-numbers k (c ∷ cs) =
     ap₂ (λ (xs ys : List Float). xs ++ ys) (enlarged-coordinates k c) (enlarged-numbers k cs) ∙ sym (map-append (scale k) (coordinatesOf c) (numbersOf cs))
 
 -- ---- the limit, which no number of a grid up to 2 ^ 22 passes
-limit-value : HasValue commandLimit false 4194304 1
+pub limit-value : HasValue commandLimit false 4194304 1
 unfolding ofBits
 limit-value = (refl, refl)
 

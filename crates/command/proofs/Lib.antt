@@ -3,4 +3,5 @@ pub mod Buffers
 pub mod Passes
 pub mod Writes
 pub mod Enlarged
+pub mod Bounds
 pub mod Ways
