@@ -1,2 +1,3 @@
 -- What the proofs of `draw` cite.
 pub mod Ways
+pub mod Sound

@@ -2,4 +2,5 @@
 pub mod Paths
 pub mod Enlarged
 pub mod Counts
+pub mod Sound
 pub mod Ways

@@ -1,3 +1,4 @@
 -- What the proofs of `rect` cite.
 pub mod Enlarged
+pub mod Sound
 pub mod Ways
