@@ -1,4 +1,5 @@
--- What the proofs of `measure` cite, and closed cases.
+-- What the proofs of `measure` cite, the laws of lengths, and closed cases.
 pub mod Ways
 pub mod Enlarged
+pub mod Rising
 mod Cases
