@@ -1,0 +1,2 @@
+-- What the proofs of `vectors_length` cite.
+pub mod Parts
