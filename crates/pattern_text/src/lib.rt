@@ -1,5 +1,6 @@
 // Bit patterns of numbers in text, as the vectors programs read and print them.
-ghost use Prim.Native.Nat.{_<_};
+// A line of theirs is a word of at most eight letters and numbers of eight hexadecimal digits, one blank before each.
+ghost use Prim.Native.Nat.{_<_, _≤_};
 use libc::STDOUT_FILENO;
 
 // The pattern that the eight hexadecimal digits from `at` on are.
@@ -45,8 +46,60 @@ pub fn nan() -> f32 {
     0.0 / 0.0
 }
 
-fn wide(pattern: u32) -> u64 {
-    pattern as u64
+// The line's number at a place, in the order of the line.
+pub fn field(line: &[u8], place: usize) -> u32
+    requires { ⌜ place < 10000 ⌝ }
+{
+    pattern(line, line.len() % 9 + 9 * place + 1)
+}
+
+// How many numbers a line has from a place on.
+fn given(line: &[u8], first: usize) -> usize {
+    let fields = line.len() / 9;
+    if first < fields { fields - first } else { 0 }
+}
+
+// The remainder of i by n, and 0 where that is none or beyond what a line may have.
+pub fn cyclic(i: usize, n: usize) -> usize
+    ensures { λ r. ⌜ r < 1000 ⌝ }
+{
+    if n == 0 {
+        return 0;
+    }
+    let r = i % n;
+    if r < 1000 { r } else { 0 }
+}
+
+// Fills a list with the numbers of a line from a place on, over and over.
+pub fn fill(list: &mut [f32], line: &[u8], first: usize)
+    requires { ⌜ first < 1000 ⌝ }
+{
+    let n = given(line, first);
+    let mut i = 0;
+    while i < list.len() {
+        list[i] = number(field(line, first + cyclic(i, n)));
+        i += 1;
+    }
+}
+
+pub fn size(x: u32) -> usize {
+    x as usize
+}
+
+// x, or the most where x is more.
+pub fn at_most(x: u32, most: usize) -> usize
+    ensures { λ r. ⌜ r ≤ most ⌝ }
+{
+    let n = size(x);
+    if n < most { n } else { most }
+}
+
+fn wide(x: u32) -> u64 {
+    x as u64
+}
+
+fn wide_size(x: usize) -> u64 {
+    x as u64
 }
 
 // Writes the number's pattern, or `nan`.
@@ -56,4 +109,24 @@ pub fn print(x: f32) {
     } else {
         io::write_all(STDOUT_FILENO, b"nan");
     }
+}
+
+// Writes the patterns of a list, with a blank before each.
+pub fn print_list(list: &[f32]) {
+    let mut i = 0;
+    while i < list.len() {
+        io::write_all(STDOUT_FILENO, b" ");
+        print(list[i]);
+        i += 1;
+    }
+}
+
+pub fn print_decimal(x: usize) {
+    io::print_decimal(STDOUT_FILENO, wide_size(x));
+}
+
+pub fn print_refusal(number: u32) {
+    io::write_all(STDOUT_FILENO, b"refused ");
+    io::print_decimal(STDOUT_FILENO, wide(number));
+    io::write_all(STDOUT_FILENO, b"\n");
 }

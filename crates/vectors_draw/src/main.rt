@@ -1,67 +1,11 @@
 // Runs the vectors of drawing: reads calls from standard input, one a line, and writes what each leaves behind.
 // tools/draw_vectors.py makes the lines and says how they read.
-ghost use Prim.Native.Nat.{_<_, _≤_};
+ghost use Prim.Native.Nat.{_<_};
 use command::Drawn;
 use libc::STDIN_FILENO;
 use libc::STDOUT_FILENO;
 
-// The line's number at a place, in the order of the line.
-fn field(line: &[u8], place: usize) -> u32
-    requires { ⌜ place < 10000 ⌝ }
-{
-    pattern_text::pattern(line, 9 * place + 5)
-}
-
-fn size(x: u32) -> usize {
-    x as usize
-}
-
-// x, or the most where x is more.
-fn at_most(x: u32, most: usize) -> usize
-    ensures { λ r. ⌜ r ≤ most ⌝ }
-{
-    let n = size(x);
-    if n < most { n } else { most }
-}
-
-// How many numbers a line has from a place on.
-fn given(line: &[u8], first: usize) -> usize {
-    let fields = line.len() / 9;
-    if first < fields { fields - first } else { 0 }
-}
-
-// The remainder of i by n, and 0 where that is none or beyond what a line may have.
-fn cyclic(i: usize, n: usize) -> usize
-    ensures { λ r. ⌜ r < 1000 ⌝ }
-{
-    if n == 0 {
-        return 0;
-    }
-    let r = i % n;
-    if r < 1000 { r } else { 0 }
-}
-
-// Fills a list with the numbers of a line from a place on, over and over.
-fn fill(list: &mut [f32], line: &[u8], first: usize)
-    requires { ⌜ first < 100 ⌝ }
-{
-    let n = given(line, first);
-    let mut i = 0;
-    while i < list.len() {
-        list[i] = pattern_text::number(field(line, first + cyclic(i, n)));
-        i += 1;
-    }
-}
-
-fn wide(x: u32) -> u64 {
-    x as u64
-}
-
 fn wide_byte(x: u8) -> u64 {
-    x as u64
-}
-
-fn wide_size(x: usize) -> u64 {
     x as u64
 }
 
@@ -78,33 +22,22 @@ fn print_codes(codes: &[u8]) {
 
 fn print_numbers(numbers: &[f32]) {
     io::write_all(STDOUT_FILENO, b"numbers");
-    let mut i = 0;
-    while i < numbers.len() {
-        io::write_all(STDOUT_FILENO, b" ");
-        pattern_text::print(numbers[i]);
-        i += 1;
-    }
-    io::write_all(STDOUT_FILENO, b"\n");
-}
-
-fn print_refusal(refusal: command::Refusal) {
-    io::write_all(STDOUT_FILENO, b"refused ");
-    io::print_decimal(STDOUT_FILENO, wide(command::refusal_number(refusal)));
+    pattern_text::print_list(numbers);
     io::write_all(STDOUT_FILENO, b"\n");
 }
 
 fn print_written(codes: usize, numbers: usize) {
     io::write_all(STDOUT_FILENO, b"written ");
-    io::print_decimal(STDOUT_FILENO, wide_size(codes));
+    pattern_text::print_decimal(codes);
     io::write_all(STDOUT_FILENO, b" ");
-    io::print_decimal(STDOUT_FILENO, wide_size(numbers));
+    pattern_text::print_decimal(numbers);
     io::write_all(STDOUT_FILENO, b"\n");
 }
 
 // Writes the answer of a call, and what the buffers hold after it.
 fn print_drawn(drawn: Drawn, codes: &[u8], numbers: &[f32]) {
     match drawn {
-        Drawn::Refused(refusal) => print_refusal(refusal),
+        Drawn::Refused(refusal) => pattern_text::print_refusal(command::refusal_number(refusal)),
         Drawn::Written(n, m) => print_written(n, m),
     }
     print_codes(codes);
@@ -112,26 +45,32 @@ fn print_drawn(drawn: Drawn, codes: &[u8], numbers: &[f32]) {
 }
 
 fn draw_path(line: &[u8], vertices: &[f32], codes: &mut [u8], numbers: &mut [f32]) {
-    let count = size(field(line, 1));
-    let drawn = draw::draw_path(field(line, 0), vertices, count, codes, numbers);
+    let count = pattern_text::size(pattern_text::field(line, 1));
+    let drawn = draw::draw_path(
+        pattern_text::field(line, 0),
+        vertices,
+        count,
+        codes,
+        numbers,
+    );
     print_drawn(drawn, codes, numbers);
 }
 
 // Draws a row of which the first entries are lent, so many as the line says.
 fn draw_row(line: &[u8], row: &[u32], items: &[f32], codes: &mut [u8], numbers: &mut [f32]) {
-    let entries = at_most(field(line, 0), row.len());
+    let entries = pattern_text::at_most(pattern_text::field(line, 0), row.len());
     let drawn = draw::draw_item(&row[..entries], items, codes, numbers);
     print_drawn(drawn, codes, numbers);
 }
 
 fn draw_item(line: &[u8], items: &[f32], codes: &mut [u8], numbers: &mut [f32]) {
     let row = [
-        field(line, 1),
-        field(line, 2),
-        field(line, 3),
-        field(line, 4),
-        field(line, 5),
-        field(line, 6),
+        pattern_text::field(line, 1),
+        pattern_text::field(line, 2),
+        pattern_text::field(line, 3),
+        pattern_text::field(line, 4),
+        pattern_text::field(line, 5),
+        pattern_text::field(line, 6),
     ];
     draw_row(line, &row, items, codes, numbers);
 }
@@ -158,10 +97,10 @@ fn lengths_place(line: &[u8]) -> usize
 // Draws what a line says with the first places of a list and of two buffers, so many as the line says.
 fn lend(line: &[u8], list: &mut [f32], codes: &mut [u8], numbers: &mut [f32]) {
     let place = lengths_place(line);
-    fill(list, line, place + 3);
-    let lent = at_most(field(line, place), list.len());
-    let n = at_most(field(line, place + 1), codes.len());
-    let m = at_most(field(line, place + 2), numbers.len());
+    pattern_text::fill(list, line, place + 3);
+    let lent = pattern_text::at_most(pattern_text::field(line, place), list.len());
+    let n = pattern_text::at_most(pattern_text::field(line, place + 1), codes.len());
+    let m = pattern_text::at_most(pattern_text::field(line, place + 2), numbers.len());
     draw(line, &list[..lent], &mut codes[..n], &mut numbers[..m]);
 }
 

@@ -1,46 +1,10 @@
 // Runs the vectors of lengths and single commands: reads calls from standard input, one a line, and writes what each answers.
 // tools/length_vectors.py makes the lines and says how they read.
-ghost use Prim.Native.Nat.{_<_, _≤_};
+ghost use Prim.Native.Nat.{_<_};
 use judge::Found;
 use length::Measured;
 use libc::STDIN_FILENO;
 use libc::STDOUT_FILENO;
-
-// The line's number at a place, in the order of the line.
-fn field(line: &[u8], place: usize) -> u32
-    requires { ⌜ place < 10000 ⌝ }
-{
-    pattern_text::pattern(line, 9 * place + 8)
-}
-
-fn size(x: u32) -> usize {
-    x as usize
-}
-
-// x, or the most where x is more.
-fn at_most(x: u32, most: usize) -> usize
-    ensures { λ r. ⌜ r ≤ most ⌝ }
-{
-    let n = size(x);
-    if n < most { n } else { most }
-}
-
-// How many numbers a line has from a place on.
-fn given(line: &[u8], first: usize) -> usize {
-    let fields = line.len() / 9;
-    if first < fields { fields - first } else { 0 }
-}
-
-// The remainder of i by n, and 0 where that is none or beyond what a line may have.
-fn cyclic(i: usize, n: usize) -> usize
-    ensures { λ r. ⌜ r < 1000 ⌝ }
-{
-    if n == 0 {
-        return 0;
-    }
-    let r = i % n;
-    if r < 1000 { r } else { 0 }
-}
 
 fn low_byte(x: u32) -> u8 {
     (x % 256) as u8
@@ -52,35 +16,9 @@ fn fill_codes(codes: &mut [u8], line: &[u8], first: usize, n: usize)
 {
     let mut i = 0;
     while i < codes.len() {
-        codes[i] = low_byte(field(line, first + cyclic(i, n)));
+        codes[i] = low_byte(pattern_text::field(line, first + pattern_text::cyclic(i, n)));
         i += 1;
     }
-}
-
-// Fills a list with the numbers of a line from a place on, over and over.
-fn fill_numbers(numbers: &mut [f32], line: &[u8], first: usize)
-    requires { ⌜ first < 1000 ⌝ }
-{
-    let n = given(line, first);
-    let mut i = 0;
-    while i < numbers.len() {
-        numbers[i] = pattern_text::number(field(line, first + cyclic(i, n)));
-        i += 1;
-    }
-}
-
-fn wide(x: u32) -> u64 {
-    x as u64
-}
-
-fn wide_size(x: usize) -> u64 {
-    x as u64
-}
-
-fn print_refusal(number: u32) {
-    io::write_all(STDOUT_FILENO, b"refused ");
-    io::print_decimal(STDOUT_FILENO, wide(number));
-    io::write_all(STDOUT_FILENO, b"\n");
 }
 
 fn print_length(x: f32) {
@@ -91,22 +29,22 @@ fn print_length(x: f32) {
 
 fn print_measured(measured: Measured) {
     match measured {
-        Measured::Refused(refusal) => print_refusal(command::refusal_number(refusal)),
+        Measured::Refused(refusal) => pattern_text::print_refusal(command::refusal_number(refusal)),
         Measured::Length(x) => print_length(x),
     }
 }
 
 fn print_places(start: usize, count: usize) {
     io::write_all(STDOUT_FILENO, b"numbers ");
-    io::print_decimal(STDOUT_FILENO, wide_size(start));
+    pattern_text::print_decimal(start);
     io::write_all(STDOUT_FILENO, b" ");
-    io::print_decimal(STDOUT_FILENO, wide_size(count));
+    pattern_text::print_decimal(count);
     io::write_all(STDOUT_FILENO, b"\n");
 }
 
 fn print_found(found: Found) {
     match found {
-        Found::Refused(refusal) => print_refusal(command::refusal_number(refusal)),
+        Found::Refused(refusal) => pattern_text::print_refusal(command::refusal_number(refusal)),
         Found::At(start, count) => print_places(start, count),
     }
 }
@@ -114,15 +52,10 @@ fn print_found(found: Found) {
 // Writes the number that is handed back beside a part, how many numbers the part has, and the part.
 fn print_part(fault: u32, part: &[f32]) {
     io::write_all(STDOUT_FILENO, b"fault ");
-    io::print_decimal(STDOUT_FILENO, wide(fault));
+    pattern_text::print_decimal(pattern_text::size(fault));
     io::write_all(STDOUT_FILENO, b" part ");
-    io::print_decimal(STDOUT_FILENO, wide_size(part.len()));
-    let mut i = 0;
-    while i < part.len() {
-        io::write_all(STDOUT_FILENO, b" ");
-        pattern_text::print(part[i]);
-        i += 1;
-    }
+    pattern_text::print_decimal(part.len());
+    pattern_text::print_list(part);
     io::write_all(STDOUT_FILENO, b"\n");
 }
 
@@ -132,7 +65,7 @@ fn is_command(line: &[u8]) -> bool {
 
 fn call(line: &[u8], codes: &[u8], numbers: &[f32]) {
     if is_command(line) {
-        let k = size(field(line, 0));
+        let k = pattern_text::size(pattern_text::field(line, 0));
         print_found(judge::find_command(codes, numbers, k));
         let fault = judge::command_fault(codes, numbers, k);
         print_part(fault, judge::command_part(codes, numbers, k));
@@ -151,17 +84,17 @@ fn lengths_place(line: &[u8]) -> usize
 // Calls what a line says with two lists, which it fills.
 fn fill_and_call(line: &[u8], codes: &mut [u8], numbers: &mut [f32]) {
     let place = lengths_place(line) + 2;
-    let codes_given = at_most(field(line, place), 900);
+    let codes_given = pattern_text::at_most(pattern_text::field(line, place), 900);
     fill_codes(codes, line, place + 1, codes_given);
-    fill_numbers(numbers, line, place + 1 + codes_given);
+    pattern_text::fill(numbers, line, place + 1 + codes_given);
     call(line, codes, numbers);
 }
 
 // Lends the first places of two lists, so many as the line says.
 fn lend(line: &[u8], codes: &mut [u8], numbers: &mut [f32]) {
     let place = lengths_place(line);
-    let n = at_most(field(line, place), codes.len());
-    let m = at_most(field(line, place + 1), numbers.len());
+    let n = pattern_text::at_most(pattern_text::field(line, place), codes.len());
+    let m = pattern_text::at_most(pattern_text::field(line, place + 1), numbers.len());
     fill_and_call(line, &mut codes[..n], &mut numbers[..m]);
 }
 

@@ -1,6 +1,6 @@
 -- `vectors_draw::draw_row` is safe: no more entries are lent than the row has. Assumes nothing.
 use borrow.Author.Needs.{needs}
-use Rattle.vectors_draw.proofs.Parts.{part-length}
+use Rattle.pattern_text.proofs.Parts.{part-length}
 use Rattle.vectors_draw.proofs.draw_row.Statement.{statement}
 use Rattle.vectors_draw.proofs.draw_row.Tie as tie
 

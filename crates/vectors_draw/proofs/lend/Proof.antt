@@ -1,6 +1,6 @@
 -- `vectors_draw::lend` is safe: no more is lent than the list and the buffers have. Assumes nothing.
 use borrow.Author.Needs.{needs}
-use Rattle.vectors_draw.proofs.Parts.{part-length}
+use Rattle.pattern_text.proofs.Parts.{part-length}
 use Rattle.vectors_draw.proofs.lend.Statement.{statement}
 use Rattle.vectors_draw.proofs.lend.Tie as tie
 

@@ -1,5 +1,5 @@
 -- `vectors_length::lend` is safe: no more is lent than the lists have. Assumes nothing.
-use Rattle.vectors_length.proofs.Parts.{part-length}
+use Rattle.pattern_text.proofs.Parts.{part-length}
 use borrow.Author.Needs.{needs}
 use Rattle.vectors_length.proofs.lend.Statement.{statement}
 use Rattle.vectors_length.proofs.lend.Tie as tie

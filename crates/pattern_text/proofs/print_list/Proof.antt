@@ -1,30 +1,24 @@
--- `vectors_draw::print_numbers` is safe and ends. The measure is how many numbers are left. Assumes nothing.
+-- `pattern_text::print_list` is safe and ends. The measure is how many numbers are left. Assumes nothing.
 use Prim.Native.Nat.{_-_}
 use lib.ListN.{length}
 use borrow.Author.Needs.{needs}
-use Rattle.vectors_draw.proofs.print_numbers.Statement.{statement}
-use Rattle.vectors_draw.proofs.print_numbers.Tie as tie
+use Rattle.pattern_text.proofs.print_list.Statement.{statement}
+use Rattle.pattern_text.proofs.print_list.Tie as tie
 
 abbrev Inv-loop : tie.InvT-loop
-Inv-loop numbers i₀ t4 t5 i = Unit {0}
+Inv-loop list i₀ t3 i = Unit {0}
 
 abbrev μ-loop : tie.MeasureT-loop
-μ-loop numbers i₀ t4 t5 i = length numbers - i
+μ-loop list i₀ t3 i = length list - i
+
+loop-holds : tie.Need-loop-holds Inv-loop μ-loop
+loop-holds c = tt
 
 slice-aggregate-write-all : tie.Need-slice-aggregate-write-all Inv-loop μ-loop
 slice-aggregate-write-all c = search needs
 
 write-all-requires : tie.Need-write-all-requires Inv-loop μ-loop
 write-all-requires c κs = search needs
-
-loop-holds : tie.Need-loop-holds Inv-loop μ-loop
-loop-holds c = tt
-
-slice-aggregate-write-all-2 : tie.Need-slice-aggregate-write-all-2 Inv-loop μ-loop
-slice-aggregate-write-all-2 c = search needs
-
-write-all-requires-2 : tie.Need-write-all-requires-2 Inv-loop μ-loop
-write-all-requires-2 c κs = search needs
 
 mul-print : tie.Need-mul-print Inv-loop μ-loop
 mul-print c = search needs
@@ -44,32 +38,22 @@ loop-less c = search needs
 loop-again : tie.Need-loop-again Inv-loop μ-loop
 loop-again c = tt
 
-slice-aggregate-write-all-3 : tie.Need-slice-aggregate-write-all-3 Inv-loop μ-loop
-slice-aggregate-write-all-3 c = search needs
-
-write-all-requires-3 : tie.Need-write-all-requires-3 Inv-loop μ-loop
-write-all-requires-3 c κs = search needs
-
 returns : tie.Need-returns Inv-loop μ-loop
 returns c = search needs
 
-pub print-numbers-spec : {M : Type 1} → statement M
-print-numbers-spec =
+pub print-list-spec : {M : Type 1} → statement M
+print-list-spec =
     tie.close
     (tie.spec
     Inv-loop
     μ-loop
+    loop-holds
     slice-aggregate-write-all
     write-all-requires
-    loop-holds
-    slice-aggregate-write-all-2
-    write-all-requires-2
     mul-print
     shared-slice-read-print
     print-requires
     add-i
     loop-less
     loop-again
-    slice-aggregate-write-all-3
-    write-all-requires-3
     returns)

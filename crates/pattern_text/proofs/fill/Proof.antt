@@ -1,10 +1,10 @@
--- `vectors_draw::fill` is safe, ends and keeps the list's length. The measure is how many places are left. Assumes nothing.
+-- `pattern_text::fill` is safe, ends and keeps the list's length. The measure is how many places are left. Assumes nothing.
 use Prim.Native.Nat.{_-_}
 use mathlib.Core.Path.{_≡_}
 use lib.ListN.{length}
 use borrow.Author.Needs.{needs}
-use Rattle.vectors_draw.proofs.fill.Statement.{statement}
-use Rattle.vectors_draw.proofs.fill.Tie as tie
+use Rattle.pattern_text.proofs.fill.Statement.{statement}
+use Rattle.pattern_text.proofs.fill.Tie as tie
 
 abbrev Inv-loop : tie.InvT-loop
 Inv-loop list₀ line first n i₀ list i = length list ≡ length list₀

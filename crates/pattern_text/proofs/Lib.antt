@@ -1,0 +1,2 @@
+-- What the proofs of the vectors programs cite.
+pub mod Parts

@@ -1,2 +1,0 @@
--- What the proofs of `vectors_draw` cite.
-pub mod Parts

@@ -1,2 +1,0 @@
--- What the proofs of `vectors_length` cite.
-pub mod Parts
