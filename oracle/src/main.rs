@@ -7,6 +7,8 @@ mod float;
 mod length;
 #[cfg(drawing)]
 mod lists;
+#[cfg(drawing)]
+mod plate;
 mod random;
 mod report;
 mod root;
@@ -25,6 +27,8 @@ const PARTS: &[Part] = &[
     draw::compare,
     #[cfg(drawing)]
     length::compare,
+    #[cfg(drawing)]
+    plate::compare,
 ];
 
 const SEED: u64 = 1;

@@ -2,20 +2,14 @@
 use mathlib.Core.Path.{_≡_, refl}
 use mathlib.Core.List.{List, [], _∷_}
 use Prim.Native.Nat.{ℕ}
-use Prim.Native.Char.{code}
-use Prim.Native.String.{String, [] as []ˢ, _∷_ as _∷ˢ_}
 use lib.Ieee.{Float, nan, binary32, ofBits, ofFields, toBits, size, odd, climb}
 use Rattle.command.specs.declared.PathCommand.{PathCommand}
 use Rattle.command.specs.declared.PathCommand.the-variants.{Move, Line, Close}
 use Rattle.command.specs.declared.Refusal.the-variants.{OutOfBounds}
 use Rattle.command.specs.Commands.{codesOf, numbersOf}
 use Rattle.judge.specs.Lists.{sizeOfCode}
+use Rattle.plate_print.proofs.Bytes.{bytes}
 use Rattle.plate_print.specs.Lines.{digitOf, leadingDigit, leading, column, columns, line, numbersLine, commandLines, answerText, refusalText, listLines, listText}
-
--- the bytes of an ASCII text
-unfoldable bytes : String → List ℕ
-bytes []ˢ = []
-bytes (c ∷ˢ s) = code c ∷ bytes s
 
 -- an f32 by its bit pattern
 abbrev f : ℕ → Float

@@ -1,4 +1,5 @@
+pub mod Bytes
 pub mod Columns
 pub mod Lines
 pub mod Ways
-pub mod Cases
+mod Cases

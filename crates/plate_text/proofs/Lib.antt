@@ -1,0 +1,3 @@
+-- What the proofs of `plate_text` cite, and closed cases.
+pub mod Ways
+mod Cases
