@@ -116,7 +116,7 @@ pub fn size(command: PathCommand) -> usize
 }
 
 // Two numbers at a place, and the place after them.
-fn put_pair(numbers: &mut [f32], at: usize, x: f32, y: f32) -> usize
+pub fn put_pair(numbers: &mut [f32], at: usize, x: f32, y: f32) -> usize
     requires { ⌜ at + 2 ≤ length (now numbers) ⌝ }
     ensures { λ r. ⌜ (r ≡ at + 2) × (now (numbers .exit) ≡ sets (now (numbers .entry)) at (x ∷ y ∷ [])) ⌝ }
 {
@@ -126,7 +126,7 @@ fn put_pair(numbers: &mut [f32], at: usize, x: f32, y: f32) -> usize
 }
 
 // Four numbers at a place, and the place after them.
-fn put_four(numbers: &mut [f32], at: usize, ax: f32, ay: f32, x: f32, y: f32) -> usize
+pub fn put_four(numbers: &mut [f32], at: usize, ax: f32, ay: f32, x: f32, y: f32) -> usize
     requires { ⌜ at + 4 ≤ length (now numbers) ⌝ }
     ensures { λ r. ⌜ (r ≡ at + 4) × (now (numbers .exit) ≡ sets (now (numbers .entry)) at (ax ∷ ay ∷ x ∷ y ∷ [])) ⌝ }
 {

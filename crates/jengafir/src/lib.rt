@@ -13,7 +13,12 @@ ghost use Rattle.draw.specs.Paths.{drawPath};
 ghost use Rattle.draw.specs.Items.{drawItem};
 ghost use Rattle.judge.specs.Lists.{Located, findCommand};
 ghost use Rattle.length.specs.Lists.{Told, measureList};
+ghost use Rattle.cut.specs.Calls.{trimRanges, trimLengths};
+ghost use Rattle.cut.specs.Answers.{rangesAnswer, lengthsAnswer, Placed};
+use cut::Shown;
+use cut::Trimmed;
 use length::Measured;
+use trim::TrimStyle;
 
 #[no_mangle]
 pub extern "C" fn jengafir_mul_add(a: f32, b: f32, c: f32) -> f32
@@ -132,4 +137,73 @@ pub extern "C" fn jengafir_command(
     *start = judge::found_start(found);
     *count = judge::found_count(found);
     judge::found_number(found)
+}
+
+#[no_mangle]
+pub extern "C" fn jengafir_trim_ranges(
+    start: f32,
+    end: f32,
+    offset: f32,
+    ranges: &mut [f32; 4],
+    range_count: &mut usize,
+    whole: &mut u32,
+) -> u32
+    ensures { λ r. ⌜ Placed
+        (rangesAnswer (trimRanges (record { start = start; end = end; «offset_degrees» = offset; mode = 1 })))
+        r (now («range_count» .exit)) (now (ranges .entry)) (now (ranges .exit)) (now (whole .entry)) (now (whole .exit)) ⌝ }
+{
+    let trim = TrimStyle {
+        start,
+        end,
+        offset_degrees: offset,
+        mode: 1,
+    };
+    match cut::trim_ranges(trim) {
+        Shown::Refused(refusal) => {
+            *range_count = 0;
+            command::refusal_number(refusal)
+        }
+        Shown::Visible(visible) => {
+            cut::put_ranges(visible, ranges);
+            *range_count = trim::range_count(visible);
+            *whole = cut::mark_of(visible);
+            0
+        }
+    }
+}
+
+#[no_mangle]
+pub extern "C" fn jengafir_trim_lengths(
+    start: f32,
+    end: f32,
+    offset: f32,
+    mode: u8,
+    codes: &[u8],
+    numbers: &[f32],
+    cuts: &mut [f32; 6],
+    range_count: &mut usize,
+    whole: &mut u32,
+) -> u32
+    ensures { λ r. ⌜ Placed
+        (lengthsAnswer (trimLengths (record { start = start; end = end; «offset_degrees» = offset; mode = mode }) (now (codes .entry)) (now (numbers .entry))))
+        r (now («range_count» .exit)) (now (cuts .entry)) (now (cuts .exit)) (now (whole .entry)) (now (whole .exit)) ⌝ }
+{
+    let trim = TrimStyle {
+        start,
+        end,
+        offset_degrees: offset,
+        mode,
+    };
+    match cut::trim_lengths(trim, codes, numbers) {
+        Trimmed::Refused(refusal) => {
+            *range_count = 0;
+            command::refusal_number(refusal)
+        }
+        Trimmed::Cut(total, visible) => {
+            cut::put_cuts(total, visible, cuts);
+            *range_count = trim::range_count(visible);
+            *whole = cut::mark_of(visible);
+            0
+        }
+    }
 }

@@ -1,0 +1,2 @@
+-- What the proofs of `cut` cite.
+pub mod Ways

@@ -1,0 +1,2 @@
+-- What the proofs of `trim` cite.
+pub mod Ways
