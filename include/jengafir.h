@@ -1,4 +1,4 @@
-/* The C interface of Jengafir: shapes drawn as path commands, paths measured, and binary32 arithmetic. */
+/* The C interface of Jengafir: shapes drawn as path commands, paths measured and trimmed, and binary32 arithmetic. */
 #ifndef JENGAFIR_H
 #define JENGAFIR_H
 
@@ -87,6 +87,28 @@ uint32_t jengafir_length(const uint8_t *codes, size_t codes_len, const float *nu
    On a refusal both are 0. */
 uint32_t jengafir_command(const uint8_t *codes, size_t codes_len, const float *numbers, size_t numbers_len, size_t k,
                           size_t *start, size_t *count);
+
+/* Of the two calls that trim: start and end are in per cent of the path's length, the offset is in degrees, and a
+   turn is the whole length. They may be any finite numbers. No pointer is null, and places that are lent for writing
+   overlap nothing else that is lent.
+   On acceptance `range_count` is 0 where nothing is visible, 1, or 2 where the visible part goes past the path's end;
+   `whole` is 1 where the one range is the whole path, and else 0; numbers stand at the start of the array, and places
+   past them keep their content. On a refusal `range_count` is 0, and `whole` and the array keep their content. */
+
+/* Puts the visible ranges of a trim down in `ranges`, as parts of the path's length: for each range its start and its
+   end, which are from 0 to 1 with the start not beyond the end. A start may be -0. Two ranges are from a start to 1,
+   and from 0 to an end.
+   Refuses a number that is not finite with 3. */
+uint32_t jengafir_trim_ranges(float start, float end, float offset, float ranges[4], size_t *range_count,
+                              uint32_t *whole);
+
+/* Puts down in `cuts` how much of a path's length lies before, in and after each visible range: three numbers a range.
+   `mode` is 1 or 2; both are answered alike.
+   Refuses, by the first of these that holds: 3 for a number of the trim, 4 for `mode`, the list as jengafir_length
+   does, and 8 for a path of length at most 2^-23. */
+uint32_t jengafir_trim_lengths(float start, float end, float offset, uint8_t mode, const uint8_t *codes,
+                               size_t codes_len, const float *numbers, size_t numbers_len, float cuts[6],
+                               size_t *range_count, uint32_t *whole);
 
 /* Each float function is defined for every float. */
 

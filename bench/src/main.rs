@@ -4,6 +4,8 @@
 mod draw;
 #[cfg(drawing)]
 mod length;
+#[cfg(drawing)]
+mod trim;
 
 use std::hint::black_box;
 use std::time::Instant;
@@ -68,5 +70,6 @@ fn main() {
     {
         draw::run();
         length::run();
+        trim::run();
     }
 }

@@ -67,7 +67,7 @@ fn compare_list(
 }
 
 /// The checks of a command list in document 01's order: 2; of the first faulty command 4, 12, 3; then numbers left over.
-fn judged(list: &Path) -> Result<(), u32> {
+pub fn judged(list: &Path) -> Result<(), u32> {
     check(list.codes.len() <= MOST_COMMANDS, 2)?;
     let mut rest = &list.numbers[..];
     for &code in &list.codes {
@@ -111,7 +111,7 @@ fn any_index(random: &mut Random, length: usize) -> usize {
     }
 }
 
-fn shown(list: &Path) -> String {
+pub fn shown(list: &Path) -> String {
     let codes = &list.codes[..list.codes.len().min(30)];
     format!("{} codes {codes:?}, {}", list.codes.len(), shown_list(&list.numbers))
 }

@@ -14,6 +14,8 @@ mod report;
 mod root;
 #[cfg(drawing)]
 mod shapes;
+#[cfg(drawing)]
+mod trim;
 
 use random::Random;
 use report::Report;
@@ -27,6 +29,8 @@ const PARTS: &[Part] = &[
     draw::compare,
     #[cfg(drawing)]
     length::compare,
+    #[cfg(drawing)]
+    trim::compare,
     #[cfg(drawing)]
     plate::compare,
 ];

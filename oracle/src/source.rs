@@ -1,9 +1,9 @@
-//! The Rust's own drawing and measuring functions, cut by name out of its text, over stand-ins as document 01 has them.
+//! The Rust's own drawing, measuring and trimming functions, cut by name out of its text, over stand-ins as document 01 has them.
 
 mod root;
 
 /// What a builder hands over: the codes of the commands, and the numbers of all in one list.
-#[derive(Default)]
+#[derive(Clone, Default)]
 pub struct Path {
     pub codes: Vec<u8>,
     pub numbers: Vec<f32>,
@@ -41,6 +41,22 @@ impl Path {
     }
 }
 
+/// The lengths of a dash: 0, and what lies before, in and after a visible range.
+struct TinyStrokeDash(Vec<f32>);
+
+impl TinyStrokeDash {
+    fn new(lengths: Vec<f32>, _: f32) -> Option<TinyStrokeDash> {
+        Some(TinyStrokeDash(lengths))
+    }
+}
+
+impl Path {
+    /// Records the dash in place of a path: its three lengths as numbers, and no command.
+    fn dash(&self, dash: &TinyStrokeDash, _: f32) -> Option<Path> {
+        Some(Path { codes: Vec::new(), numbers: dash.0[1..].to_vec() })
+    }
+}
+
 /// Appends commands, and hands them over whatever they are.
 #[derive(Default)]
 struct PathBuilder(Path);
@@ -69,6 +85,11 @@ impl PathBuilder {
 
     fn close(&mut self) {
         self.push(3, &[]);
+    }
+
+    fn push_path(&mut self, path: &Path) {
+        self.0.codes.extend_from_slice(&path.codes);
+        self.0.numbers.extend_from_slice(&path.numbers);
     }
 
     fn finish(self) -> Option<Path> {
@@ -126,6 +147,14 @@ pub struct BezierVertex {
     pub vertex: [f32; 2],
     pub in_tangent: [f32; 2],
     pub out_tangent: [f32; 2],
+}
+
+/// A trim, sampled already.
+pub struct TrimStyle {
+    pub start: f32,
+    pub end: f32,
+    pub offset_degrees: f32,
+    pub mode: u8,
 }
 
 /// A rectangle's numbers, sampled already.
@@ -204,7 +233,8 @@ mod exact {
 mod drawing_paths {
     use crate::exact::distance;
     use crate::values::{position_vec2_at, scalar_at, vec2_at};
-    use crate::{BezierPath, Path, PathBuilder, PathSegment, Rect, ShapeItem};
+    use crate::{BezierPath, Path, PathBuilder, PathSegment, Rect, ShapeItem, TinyStrokeDash, TrimStyle};
+    use std::mem;
 
     include!("../../target/oracle/rust_text.rs");
 
@@ -214,6 +244,16 @@ mod drawing_paths {
 
     pub fn path_length(path: &Path) -> f32 {
         approx_path_length(path)
+    }
+
+    pub fn trim_ranges(trim: &TrimStyle) -> (Vec<(f32, f32)>, bool) {
+        let ranges = normalized_trim_segments(trim);
+        let full = is_full_trim_segments(&ranges);
+        (ranges, full)
+    }
+
+    pub fn trimmed(path: &Path, trim: &TrimStyle) -> Option<Path> {
+        trim_path(path, trim)
     }
 }
 
@@ -230,4 +270,14 @@ pub fn rect_path(item: &ShapeItem) -> Option<Path> {
 /// The length of a path.
 pub fn path_length(path: &Path) -> f32 {
     drawing_paths::path_length(path)
+}
+
+/// The visible ranges of a trim, and whether they are the whole path.
+pub fn trim_ranges(trim: &TrimStyle) -> (Vec<(f32, f32)>, bool) {
+    drawing_paths::trim_ranges(trim)
+}
+
+/// The recorded dashes of a trimmed path, three numbers each; the path itself where it is visible whole.
+pub fn trimmed(path: &Path, trim: &TrimStyle) -> Option<Path> {
+    drawing_paths::trimmed(path, trim)
 }
