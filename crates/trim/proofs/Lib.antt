@@ -1,2 +1,3 @@
 -- What the proofs of `trim` cite.
 pub mod Ways
+pub mod Inside
