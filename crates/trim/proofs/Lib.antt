@@ -1,3 +1,4 @@
 -- What the proofs of `trim` cite.
 pub mod Ways
 pub mod Inside
+mod Cases
