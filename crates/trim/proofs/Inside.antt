@@ -143,7 +143,7 @@ pub offset-bounded : (d : Float) → T (finite d) → Bounded 1 (offsetOf d)
 offset-bounded d F = let r = offset-range d F in bounded-between 1 zero32 (offsetOf d) one32 (zero-bounded 1) one-bounded (r .0) (r .1)
 
 -- ---- a place on the path is a number
-pub finite-number : (x : Float) → T (finite x) → T (isNumber x)
+finite-number : (x : Float) → T (finite x) → T (isNumber x)
 finite-number nan F = F
 finite-number (inf s) F = tt
 finite-number (fin s m e) F = tt
