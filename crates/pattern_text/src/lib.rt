@@ -82,6 +82,21 @@ pub fn fill(list: &mut [f32], line: &[u8], first: usize)
     }
 }
 
+pub fn low_byte(x: u32) -> u8 {
+    (x % 256) as u8
+}
+
+// Fills a list of codes with n numbers of a line from a place on, over and over.
+pub fn fill_codes(codes: &mut [u8], line: &[u8], first: usize, n: usize)
+    requires { ⌜ first < 1000 ⌝ }
+{
+    let mut i = 0;
+    while i < codes.len() {
+        codes[i] = low_byte(field(line, first + cyclic(i, n)));
+        i += 1;
+    }
+}
+
 pub fn size(x: u32) -> usize {
     x as usize
 }

@@ -6,21 +6,6 @@ use length::Measured;
 use libc::STDIN_FILENO;
 use libc::STDOUT_FILENO;
 
-fn low_byte(x: u32) -> u8 {
-    (x % 256) as u8
-}
-
-// Fills a list of codes with n numbers of a line from a place on, over and over.
-fn fill_codes(codes: &mut [u8], line: &[u8], first: usize, n: usize)
-    requires { ⌜ first < 1000 ⌝ }
-{
-    let mut i = 0;
-    while i < codes.len() {
-        codes[i] = low_byte(pattern_text::field(line, first + pattern_text::cyclic(i, n)));
-        i += 1;
-    }
-}
-
 fn print_length(x: f32) {
     io::write_all(STDOUT_FILENO, b"length ");
     pattern_text::print(x);
@@ -85,7 +70,7 @@ fn lengths_place(line: &[u8]) -> usize
 fn fill_and_call(line: &[u8], codes: &mut [u8], numbers: &mut [f32]) {
     let place = lengths_place(line) + 2;
     let codes_given = pattern_text::at_most(pattern_text::field(line, place), 900);
-    fill_codes(codes, line, place + 1, codes_given);
+    pattern_text::fill_codes(codes, line, place + 1, codes_given);
     pattern_text::fill(numbers, line, place + 1 + codes_given);
     call(line, codes, numbers);
 }

@@ -1,10 +1,10 @@
--- `vectors_length::fill_codes` is safe, ends and keeps the list's length. The measure is how many places are left. Assumes nothing.
+-- `pattern_text::fill_codes` is safe, ends and keeps the list's length. The measure is how many places are left. Assumes nothing.
 use Prim.Native.Nat.{_-_}
 use mathlib.Core.Path.{_≡_}
 use lib.ListN.{length}
 use borrow.Author.Needs.{needs}
-use Rattle.vectors_length.proofs.fill_codes.Statement.{statement}
-use Rattle.vectors_length.proofs.fill_codes.Tie as tie
+use Rattle.pattern_text.proofs.fill_codes.Statement.{statement}
+use Rattle.pattern_text.proofs.fill_codes.Tie as tie
 
 abbrev Inv-loop : tie.InvT-loop
 Inv-loop codes₀ line first n i₀ codes i = length codes ≡ length codes₀
