@@ -148,6 +148,11 @@ def mul_add(a, b, c):
     return round_to_f32(int(exact < 0), abs(exact))
 
 
+def div(x, y):
+    """x / y, rounded once. Both are finite, and y is not a zero."""
+    return round_to_f32(x[0] ^ y[0], x[1] / y[1])
+
+
 def hypot(x, y):
     """The root of x * x + y * y, rounded once. An infinity wins over a NaN."""
     if INFINITE in (size_of(x), size_of(y)):
