@@ -1,2 +1,3 @@
--- What the proofs of `cut` cite.
+-- What the proofs of `cut` cite, and the laws of enlarged paths.
 pub mod Ways
+pub mod Enlarged
