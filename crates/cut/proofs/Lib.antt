@@ -1,3 +1,4 @@
--- What the proofs of `cut` cite, and the laws of enlarged paths.
+-- What the proofs of `cut` cite, the laws of enlarged paths, and closed cases.
 pub mod Ways
 pub mod Enlarged
+mod Cases
