@@ -15,7 +15,7 @@ pub fn from_whole(negative: bool, n: u64) -> f32
 }
 
 // q / 2^s to a whole number: the largest that is no more.
-fn down_at(q: u64, s: u64) -> u64
+pub fn down_at(q: u64, s: u64) -> u64
     requires { ⌜ (q < 2 ^ 24) × (0 < s) ⌝ }
     ensures { λ r. ⌜ (r ≡ wholeDown q (2 ^ s)) × (r ≤ 2 ^ 24) ⌝ }
 {
@@ -23,7 +23,7 @@ fn down_at(q: u64, s: u64) -> u64
 }
 
 // The least whole number that is no less.
-fn up_at(q: u64, s: u64) -> u64
+pub fn up_at(q: u64, s: u64) -> u64
     requires { ⌜ (q < 2 ^ 24) × (0 < s) ⌝ }
     ensures { λ r. ⌜ (r ≡ wholeUp q (2 ^ s)) × (r ≤ 2 ^ 24) ⌝ }
 {

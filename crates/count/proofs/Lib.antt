@@ -1,0 +1,2 @@
+-- What the proofs of `count` cite.
+pub mod Ways

@@ -1,0 +1,2 @@
+-- A float as a count.
+pub mod Count

@@ -1,0 +1,2 @@
+-- What the proofs of `repeater` cite.
+pub mod Ways

@@ -1,0 +1,192 @@
+-- What each way out of a function of this crate owes, as the code meets it: a premise for each test and for each call's result.
+-- Assumes nothing.
+use mathlib.Core.Path.{_≡_, refl, sym, ap, _∙_, subst}
+use mathlib.Core.Bool.{Bool, true, false, cond}
+use Prim.Native.Nat.{ℕ, zero, suc, _+_, _-_, _*_, _^_, _≤_, _<_}
+use native.Mathlib.Numerals.{add-one}
+use native.Mathlib.Omega.{arith}
+use lib.Dec.{lit≤, lit<}
+use lib.IntN.{pos}
+use lib.Ieee.{Float, nan, inf, fin, binary32, ofBits, ofInt, round, div, neg, lt, le}
+use lib.Ieee.Exact.{HasValue}
+use Rattle.ieee.specs.Literal.{zero32, one32}
+use Rattle.ieee.specs.Operators.{_⊕_, _⊖_, _⊗_}
+use borrow.Author.Tests.{le-leb, lt-leb}
+use Rattle.ieee.specs.Sign.{abs}
+use Rattle.ieee.specs.Limit.{within, Bounded}
+use Rattle.ieee.proofs.Bounds.{within→bounded, bounded→within, add-bounded, reach-pow, reach-whole, round-bounded}
+use Rattle.count.specs.Count.{countDown, countUp, countLimit}
+use Rattle.ieee.specs.Choice.{max}
+use Rattle.ieee.specs.Fused.{fma}
+use Rattle.repeater.specs.declared.Matrix.{Matrix}
+use Rattle.repeater.specs.declared.RepeaterStyle.{RepeaterStyle}
+use Rattle.repeater.specs.Matrix.{identity, concat, preTranslate, preScale}
+use Rattle.repeater.specs.Repeater.{hundred32, leastScale, epsilon32, mostOffset, copyCount, stepScale, direction, stepShift, stepMatrix, stepTransform, steps, iterationTransform, copyTransform, opacityOf, copyOpacity}
+
+-- ---- products
+pub concat-way : (m n : Matrix) → record {
+  a = m .a ⊗ n .a ⊕ m .c ⊗ n .b;
+  b = m .b ⊗ n .a ⊕ m .d ⊗ n .b;
+  c = m .a ⊗ n .c ⊕ m .c ⊗ n .d;
+  d = m .b ⊗ n .c ⊕ m .d ⊗ n .d;
+  e = m .a ⊗ n .e ⊕ m .c ⊗ n .f ⊕ m .e;
+  f = m .b ⊗ n .e ⊕ m .d ⊗ n .f ⊕ m .f;
+} ≡ concat m n
+unfolding concat
+concat-way m n = refl
+
+pub translate-way : (m : Matrix) (x y : Float) → record { a = m .a; b = m .b; c = m .c; d = m .d; e = m .a ⊗ x ⊕ m .c ⊗ y ⊕ m .e; f = m .b ⊗ x ⊕ m .d ⊗ y ⊕ m .f } ≡ preTranslate m x y
+unfolding preTranslate
+translate-way m x y = refl
+
+pub scale-way : (m : Matrix) (x y : Float) → record { a = m .a ⊗ x; b = m .b ⊗ x; c = m .c ⊗ y; d = m .d ⊗ y; e = m .e; f = m .f } ≡ preScale m x y
+unfolding preScale
+scale-way m x y = refl
+
+pub ruleset products = (concat-way, translate-way, scale-way)
+
+-- ---- a step
+module _ (scale percent : Float) (inverse : Bool) (s : Float) (s-is : s ≡ fma binary32 (div binary32 scale hundred32 ⊖ one32) percent one32) where
+  pub scale-back : (m : Float) → m ≡ max s leastScale → inverse ≡ true → div binary32 one32 m ≡ stepScale scale percent inverse
+  unfolding stepScale
+  scale-back m m-is t = rw (t, m-is, s-is)
+
+  pub scale-forth : inverse ≡ false → s ≡ stepScale scale percent inverse
+  unfolding stepScale
+  scale-forth t = rw (t, s-is)
+
+pub direction-back : (inverse : Bool) → inverse ≡ true → neg one32 ≡ direction inverse
+direction-back inverse t = ap direction (sym t)
+
+pub direction-forth : (inverse : Bool) → inverse ≡ false → one32 ≡ direction inverse
+direction-forth inverse t = ap direction (sym t)
+
+pub shift-way : (position percent : Float) (inverse : Bool) (way : Float) → way ≡ direction inverse → position ⊗ way ⊗ percent ≡ stepShift position percent inverse
+unfolding stepShift
+shift-way position percent inverse way e = ap (λ (w : Float). position ⊗ w ⊗ percent) e
+
+pub matrix-way : (x y ax ay sx sy : Float) (i moved anchored scaled m : Matrix) → m ≡ preTranslate scaled (neg ax) (neg ay) → scaled ≡ preScale anchored sx sy
+    → anchored ≡ preTranslate moved ax ay → moved ≡ preTranslate i x y → i ≡ identity → m ≡ stepMatrix x y ax ay sx sy
+unfolding stepMatrix
+matrix-way x y ax ay sx sy i moved anchored scaled m m-is scaled-is anchored-is moved-is i-is =
+    m-is
+    ∙ ap (λ (z : Matrix). preTranslate z (neg ax) (neg ay)) scaled-is
+    ∙ ap (λ (z : Matrix). preTranslate (preScale z sx sy) (neg ax) (neg ay)) anchored-is
+    ∙ ap (λ (z : Matrix). preTranslate (preScale (preTranslate z ax ay) sx sy) (neg ax) (neg ay)) moved-is
+    ∙ ap (λ (z : Matrix). preTranslate (preScale (preTranslate (preTranslate z x y) ax ay) sx sy) (neg ax) (neg ay)) i-is
+
+pub step-way : (r : RepeaterStyle) (percent : Float) (inverse : Bool) (x y sx sy : Float) (m : Matrix) → m ≡ stepMatrix x y (r .anchor .x) (r .anchor .y) sx sy
+    → x ≡ stepShift (r .position .x) percent inverse → y ≡ stepShift (r .position .y) percent inverse
+    → sx ≡ stepScale (r .scale .x) percent inverse → sy ≡ stepScale (r .scale .y) percent inverse → m ≡ stepTransform r percent inverse
+unfolding stepTransform
+step-way r percent inverse x y sx sy m m-is x-is y-is sx-is sy-is =
+    m-is ∙ (λ i. stepMatrix (x-is i) (y-is i) (r .anchor .x) (r .anchor .y) (sx-is i) (sy-is i))
+
+pub ruleset stepping = (scale-back, scale-forth, direction-back, direction-forth, shift-way, matrix-way, step-way)
+
+-- ---- steps
+module _ (step : Matrix) where
+  pub steps-none : (m : Matrix) → m ≡ identity → m ≡ steps 0 step
+  unfolding steps
+  steps-none m e = e
+
+  pub steps-next : (i i' : ℕ) (m m' : Matrix) → m ≡ steps i step → m' ≡ concat m step → i' ≡ i + 1 → m' ≡ steps i' step
+  unfolding steps
+  steps-next i i' m m' m-is m'-is e = m'-is ∙ ap (λ (x : Matrix). concat x step) m-is ∙ ap (λ (k : ℕ). steps k step) (sym (e ∙ add-one i))
+
+  pub steps-end : (i n : ℕ) (m : Matrix) → m ≡ steps i step → n ≤ i → i ≤ n → m ≡ steps n step
+  steps-end i n m m-is h l = let e : i ≡ n = omega arith in m-is ∙ ap (λ (k : ℕ). steps k step) e
+
+pub ruleset repeating = (steps-none, steps-next, steps-end)
+
+-- ---- iteration_transform
+abs-abs : (x : Float) → abs (abs x) ≡ abs x
+abs-abs nan = refl
+abs-abs (inf s) = refl
+abs-abs (fin s m e) = refl
+
+of-whole : (n : ℕ) → round binary32 false n 1 ≡ ofInt binary32 (pos n)
+unfolding ofInt
+of-whole n = refl
+
+module _ (r : RepeaterStyle) (x : Float) (t : Bool) (t-is : t ≡ within epsilon32 x) where
+  pub iteration-none : (m : Matrix) → m ≡ identity → t ≡ true → m ≡ iterationTransform r x
+  unfolding iterationTransform
+  iteration-none m m-is h = m-is ∙ rw (sym t-is ∙ h)
+
+  module _ (some : t ≡ false) (size : Float) (size-is : size ≡ abs x) (whole : ℕ) (whole-is : whole ≡ countDown size) (f : Float) (f-is : f ≡ round binary32 false whole 1)
+      (step m : Matrix) (step-is : step ≡ stepTransform r one32 (lt x zero32)) (m-is : m ≡ steps whole step) where
+    abbrev n : ℕ
+    n = countDown (abs x)
+
+    abbrev part : Float
+    part = abs x ⊖ ofInt binary32 (pos n)
+
+    whole-same : whole ≡ n
+    whole-same = whole-is ∙ ap countDown size-is
+
+    part-same : size ⊖ f ≡ part
+    part-same = λ i. size-is i ⊖ (f-is ∙ of-whole whole ∙ ap (λ (k : ℕ). ofInt binary32 (pos k)) whole-same) i
+
+    steps-same : m ≡ steps n (stepTransform r one32 (lt x zero32))
+    steps-same = m-is ∙ (λ i. steps (whole-same i) (step-is i))
+
+    pub iteration-whole : lt epsilon32 (size ⊖ f) ≡ false → m ≡ iterationTransform r x
+    unfolding iterationTransform
+    iteration-whole h = steps-same ∙ rw (sym t-is ∙ some, ap (lt epsilon32) (sym part-same) ∙ h)
+
+    pub iteration-part : lt epsilon32 (size ⊖ f) ≡ true → (p m' : Matrix) → m' ≡ concat m p → p ≡ stepTransform r (size ⊖ f) (lt x zero32) → m' ≡ iterationTransform r x
+    unfolding iterationTransform
+    iteration-part h p m' m'-is p-is =
+        m'-is ∙ (λ i. concat (steps-same i) ((p-is ∙ ap (λ (y : Float). stepTransform r y (lt x zero32)) part-same) i)) ∙ rw (sym t-is ∙ some, ap (lt epsilon32) (sym part-same) ∙ h)
+
+pub size-inside : (x size : Float) → size ≡ abs x → within countLimit x ≡ true → within countLimit size ≡ true
+size-inside x size e h = ap (λ (y : Float). le (abs y) countLimit) e ∙ ap (λ (y : Float). le y countLimit) (abs-abs x) ∙ h
+
+pub ruleset iterating = (iteration-none, iteration-whole, iteration-part, size-inside)
+
+-- ---- copy_transform
+most-value : HasValue mostOffset false 4096 1
+unfolding ofBits
+most-value = (refl, refl)
+
+limit-value : HasValue countLimit false (2 ^ 20) 1
+unfolding ofBits
+limit-value = (refl, refl)
+
+pub iteration-inside : (offset f : Float) (copy : ℕ) → f ≡ round binary32 false copy 1 → within mostOffset offset ≡ true → copy ≤ 4096 → within countLimit (offset ⊕ f) ≡ true
+iteration-inside offset f copy f-is h l =
+    let most : copy ≤ 4096 * 1 = omega arith in
+    let number : Bounded 4096 f = subst (Bounded 4096) (sym f-is) (round-bounded binary32 false copy 1 4096 4096 (lit< tt) most (reach-whole binary32 4096 (lit< tt))) in
+    bounded→within (2 ^ 20) countLimit (offset ⊕ f) limit-value
+    (add-bounded binary32 4096 4096 (2 ^ 20) offset f (reach-pow binary32 8192 20 (lit≤ tt) (lit≤ tt)) (within→bounded 4096 mostOffset offset most-value h) number)
+
+pub copy-way : (r : RepeaterStyle) (copy : ℕ) (f : Float) (m : Matrix) → m ≡ iterationTransform r (r .offset ⊕ f) → f ≡ round binary32 false copy 1 → m ≡ copyTransform r copy
+unfolding copyTransform
+copy-way r copy f m m-is f-is = m-is ∙ ap (λ (y : Float). iterationTransform r (r .offset ⊕ y)) (f-is ∙ of-whole copy)
+
+pub ruleset copying = (iteration-inside, copy-way)
+
+-- ---- opacity
+module _ (start end : Float) (count copy : ℕ) where
+  pub opacity-single : count ≤ 1 → start ≡ opacityOf start end count copy
+  unfolding opacityOf
+  opacity-single h = rw (le-leb count 1 h)
+
+  pub opacity-many : 1 < count → (a b o : Float) → o ≡ fma binary32 (end ⊖ start) (div binary32 a b) start → a ≡ round binary32 false copy 1 → b ≡ round binary32 false (count - 1) 1
+      → o ≡ opacityOf start end count copy
+  unfolding opacityOf
+  opacity-many h a b o o-is a-is b-is =
+      o-is
+      ∙ (λ i. fma binary32 (end ⊖ start) (div binary32 ((a-is ∙ of-whole copy) i) ((b-is ∙ of-whole (count - 1)) i)) start)
+      ∙ rw (lt-leb count 1 h)
+
+pub count-way : (r : RepeaterStyle) (n : ℕ) → n ≡ countUp (r .copies) → n ≡ copyCount r
+unfolding copyCount
+count-way r n e = e
+
+pub copy-opacity-way : (r : RepeaterStyle) (copy n : ℕ) (o : Float) → o ≡ opacityOf (r .«start_opacity») (r .«end_opacity») n copy → n ≡ copyCount r → o ≡ copyOpacity r copy
+unfolding copyOpacity
+copy-opacity-way r copy n o o-is n-is = o-is ∙ ap (λ (k : ℕ). opacityOf (r .«start_opacity») (r .«end_opacity») k copy) n-is
+
+pub ruleset opacities = (opacity-single, opacity-many, count-way, copy-opacity-way)

@@ -1,0 +1,34 @@
+-- `repeater::step_transform` meets its contract. Assumes nothing.
+use borrow.Author.Needs.{needs}
+use Rattle.repeater.proofs.Ways.{stepping}
+use Rattle.repeater.proofs.step_transform.Statement.{statement}
+use Rattle.repeater.proofs.step_transform.Tie as tie
+
+step-shift-requires : tie.Need-step-shift-requires
+step-shift-requires c κs = search (needs, stepping)
+
+step-shift-requires-2 : tie.Need-step-shift-requires-2
+step-shift-requires-2 c κs = search (needs, stepping)
+
+step-scale-requires : tie.Need-step-scale-requires
+step-scale-requires c κs = search (needs, stepping)
+
+step-scale-requires-2 : tie.Need-step-scale-requires-2
+step-scale-requires-2 c κs = search (needs, stepping)
+
+step-matrix-requires : tie.Need-step-matrix-requires
+step-matrix-requires c κs = search (needs, stepping)
+
+returns : tie.Need-returns
+returns c = search (needs, stepping)
+
+pub step-transform-spec : {M : Type 1} → statement M
+step-transform-spec =
+    tie.close
+    (tie.spec
+    step-shift-requires
+    step-shift-requires-2
+    step-scale-requires
+    step-scale-requires-2
+    step-matrix-requires
+    returns)

@@ -1,0 +1,87 @@
+-- The copies of a repeater: `repeater_copy_order`, `repeater_transform_for_copy` and what they call in drawing_paths.rs, operation by operation. Definitions only.
+use Prim.Native.Nat.{ℕ, zero, suc, _-_}
+use mathlib.Core.Bool.{Bool, cond}
+use lib.Dec.{leb}
+use lib.IntN.{pos}
+use lib.Ieee.{Float, binary32, ofBits, ofInt, div, neg, lt}
+use Rattle.ieee.specs.Literal.{zero32, one32}
+use Rattle.ieee.specs.Operators.{_⊕_, _⊖_, _⊗_}
+use Rattle.ieee.specs.Sign.{abs}
+use Rattle.ieee.specs.Limit.{within}
+use Rattle.ieee.specs.Choice.{max}
+use Rattle.ieee.specs.Fused.{fma}
+use Rattle.count.specs.Count.{countDown, countUp}
+use Rattle.repeater.specs.declared.Matrix.{Matrix}
+use Rattle.repeater.specs.declared.RepeaterStyle.{RepeaterStyle}
+use Rattle.repeater.specs.Matrix.{identity, concat, preTranslate, preScale}
+
+-- how many copies there are: the ceiling, not below 0
+unfoldable pub copyCount : RepeaterStyle → ℕ
+copyCount r = countUp (r .copies)
+
+-- 2 ^ -23, `f32::EPSILON`
+abbrev pub epsilon32 : Float
+epsilon32 = ofBits binary32 0x3400_0000
+
+-- 100.0, and the f32 nearest to 1e-4, below which the inverse of a scale does not go
+abbrev pub hundred32 : Float
+hundred32 = ofBits binary32 0x42c8_0000
+
+abbrev pub leastScale : Float
+leastScale = ofBits binary32 0x38d1_b717
+
+-- a part of a step's scale, and of the inverse step's
+unfoldable pub stepScale : Float → Float → Bool → Float
+stepScale scale percent inverse =
+    let s = fma binary32 (div binary32 scale hundred32 ⊖ one32) percent one32 in
+    cond inverse (div binary32 one32 (max s leastScale)) s
+
+-- 1, or -1 for the inverse step
+abbrev pub direction : Bool → Float
+direction inverse = cond inverse (neg one32) one32
+
+-- a part of a step's shift
+unfoldable pub stepShift : Float → Float → Bool → Float
+stepShift position percent inverse = position ⊗ direction inverse ⊗ percent
+
+-- a shift, then a scaling around an anchor
+unfoldable pub stepMatrix : Float → Float → Float → Float → Float → Float → Matrix
+stepMatrix x y anchorX anchorY scaleX scaleY =
+    preTranslate (preScale (preTranslate (preTranslate identity x y) anchorX anchorY) scaleX scaleY) (neg anchorX) (neg anchorY)
+
+-- `repeater_step_transform`, for a rotation of zero, which leaves the matrix as it is
+unfoldable pub stepTransform : RepeaterStyle → Float → Bool → Matrix
+stepTransform r percent inverse =
+    stepMatrix (stepShift (r .position .x) percent inverse) (stepShift (r .position .y) percent inverse) (r .anchor .x) (r .anchor .y)
+    (stepScale (r .scale .x) percent inverse) (stepScale (r .scale .y) percent inverse)
+
+-- so many steps, one after another
+unfoldable pub steps : ℕ → Matrix → Matrix
+steps zero step = identity
+steps (suc n) step = concat (steps n step) step
+
+-- `repeater_transform_for_iteration`: whole steps, then a part of one; at most 2 ^ -23 in absolute value is the identity
+unfoldable pub iterationTransform : RepeaterStyle → Float → Matrix
+iterationTransform r iteration =
+    let inverse = lt iteration zero32 in
+    let whole = countDown (abs iteration) in
+    let fraction = abs iteration ⊖ ofInt binary32 (pos whole) in
+    let transform = steps whole (stepTransform r one32 inverse) in
+    cond (within epsilon32 iteration) identity
+    (cond (lt epsilon32 fraction) (concat transform (stepTransform r fraction inverse)) transform)
+
+-- the copy's matrix
+unfoldable pub copyTransform : RepeaterStyle → ℕ → Matrix
+copyTransform r copy = iterationTransform r (r .offset ⊕ ofInt binary32 (pos copy))
+
+-- 4,096: no absolute offset is larger
+abbrev pub mostOffset : Float
+mostOffset = ofBits binary32 0x4580_0000
+
+-- the opacity of one copy of so many, from that of the first to that of the last, fused
+unfoldable pub opacityOf : Float → Float → ℕ → ℕ → Float
+opacityOf start end count copy =
+    cond (leb count 1) start (fma binary32 (end ⊖ start) (div binary32 (ofInt binary32 (pos copy)) (ofInt binary32 (pos (count - 1)))) start)
+
+unfoldable pub copyOpacity : RepeaterStyle → ℕ → Float
+copyOpacity r copy = opacityOf (r .«start_opacity») (r .«end_opacity») (copyCount r) copy

@@ -1,0 +1,213 @@
+// The copies of a repeater: `repeater_transform_for_copy` of drawing_paths.rs and what it calls.
+ghost use mathlib.Core.Path.{_≡_};
+ghost use Prim.Native.Nat.{_^_, _≤_};
+ghost use mathlib.Core.Bool.{true};
+ghost use Rattle.ieee.specs.Limit.{within};
+ghost use Rattle.count.specs.Count.{countLimit};
+ghost use Rattle.repeater.specs.Matrix as matrix;
+ghost use Rattle.repeater.specs.Repeater as spec;
+
+// Two numbers, one an axis.
+pub struct Pair {
+    pub x: f32,
+    pub y: f32,
+}
+
+// A repeater, sampled. Scales are in per cent, the rotation is in degrees.
+pub struct RepeaterStyle {
+    pub copies: f32,
+    pub offset: f32,
+    pub mode: u8,
+    pub anchor: Pair,
+    pub position: Pair,
+    pub scale: Pair,
+    pub rotation: f32,
+    pub start_opacity: f32,
+    pub end_opacity: f32,
+}
+
+// Sends (p, q) to (a·p + c·q + e, b·p + d·q + f).
+pub struct Matrix {
+    pub a: f32,
+    pub b: f32,
+    pub c: f32,
+    pub d: f32,
+    pub e: f32,
+    pub f: f32,
+}
+
+pub fn identity() -> Matrix
+    ensures { λ r. ⌜ r ≡ matrix.identity ⌝ }
+{
+    Matrix {
+        a: 1.0,
+        b: 0.0,
+        c: 0.0,
+        d: 1.0,
+        e: 0.0,
+        f: 0.0,
+    }
+}
+
+// The product of two: n acts first.
+fn concat(m: Matrix, n: Matrix) -> Matrix
+    ensures { λ r. ⌜ r ≡ matrix.concat m n ⌝ }
+{
+    Matrix {
+        a: m.a * n.a + m.c * n.b,
+        b: m.b * n.a + m.d * n.b,
+        c: m.a * n.c + m.c * n.d,
+        d: m.b * n.c + m.d * n.d,
+        e: m.a * n.e + m.c * n.f + m.e,
+        f: m.b * n.e + m.d * n.f + m.f,
+    }
+}
+
+fn pre_translate(m: Matrix, x: f32, y: f32) -> Matrix
+    ensures { λ r. ⌜ r ≡ matrix.preTranslate m x y ⌝ }
+{
+    Matrix {
+        a: m.a,
+        b: m.b,
+        c: m.c,
+        d: m.d,
+        e: m.a * x + m.c * y + m.e,
+        f: m.b * x + m.d * y + m.f,
+    }
+}
+
+fn pre_scale(m: Matrix, x: f32, y: f32) -> Matrix
+    ensures { λ r. ⌜ r ≡ matrix.preScale m x y ⌝ }
+{
+    Matrix {
+        a: m.a * x,
+        b: m.b * x,
+        c: m.c * y,
+        d: m.d * y,
+        e: m.e,
+        f: m.f,
+    }
+}
+
+// A part of a step's scale, or of the inverse step's.
+fn step_scale(scale: f32, percent: f32, inverse: bool) -> f32
+    ensures { λ r. ⌜ r ≡ spec.stepScale scale percent inverse ⌝ }
+{
+    let s = fused::mul_add(scale / 100.0 - 1.0, percent, 1.0);
+    if inverse {
+        1.0 / float::max(s, 0.0001)
+    } else {
+        s
+    }
+}
+
+fn direction(inverse: bool) -> f32
+    ensures { λ r. ⌜ r ≡ spec.direction inverse ⌝ }
+{
+    if inverse { -1.0 } else { 1.0 }
+}
+
+// A part of a step's shift.
+fn step_shift(position: f32, percent: f32, inverse: bool) -> f32
+    ensures { λ r. ⌜ r ≡ spec.stepShift position percent inverse ⌝ }
+{
+    position * direction(inverse) * percent
+}
+
+// A shift, then a scaling around an anchor.
+fn step_matrix(x: f32, y: f32, anchor_x: f32, anchor_y: f32, scale_x: f32, scale_y: f32) -> Matrix
+    ensures { λ r. ⌜ r ≡ spec.stepMatrix x y «anchor_x» «anchor_y» «scale_x» «scale_y» ⌝ }
+{
+    let moved = pre_translate(identity(), x, y);
+    let anchored = pre_translate(moved, anchor_x, anchor_y);
+    let scaled = pre_scale(anchored, scale_x, scale_y);
+    pre_translate(scaled, -anchor_x, -anchor_y)
+}
+
+// A part of a step, or of the inverse step.
+fn step_transform(repeater: RepeaterStyle, percent: f32, inverse: bool) -> Matrix
+    ensures { λ r. ⌜ r ≡ spec.stepTransform repeater percent inverse ⌝ }
+{
+    step_matrix(
+        step_shift(repeater.position.x, percent, inverse),
+        step_shift(repeater.position.y, percent, inverse),
+        repeater.anchor.x,
+        repeater.anchor.y,
+        step_scale(repeater.scale.x, percent, inverse),
+        step_scale(repeater.scale.y, percent, inverse),
+    )
+}
+
+// So many steps, one after another.
+fn steps(n: u64, step: Matrix) -> Matrix
+    ensures { λ m. ⌜ m ≡ spec.steps n step ⌝ }
+{
+    let mut transform = identity();
+    let mut i: u64 = 0;
+    while i < n {
+        transform = concat(transform, step);
+        i += 1;
+    }
+    transform
+}
+
+// So many steps and a part of one. At most 2^-23 in absolute value is none.
+fn iteration_transform(repeater: RepeaterStyle, iteration: f32) -> Matrix
+    requires { ⌜ within countLimit iteration ≡ true ⌝ }
+    ensures { λ r. ⌜ r ≡ spec.iterationTransform repeater iteration ⌝ }
+{
+    if float::is_within(iteration, 0.00000011920929) {
+        return identity();
+    }
+    let inverse = iteration < 0.0;
+    let magnitude = float::abs(iteration);
+    let whole = count::count_down(magnitude);
+    let fraction = magnitude - whole::from_whole(false, whole);
+    let transform = steps(whole, step_transform(repeater, 1.0, inverse));
+    if fraction > 0.00000011920929 {
+        concat(transform, step_transform(repeater, fraction, inverse))
+    } else {
+        transform
+    }
+}
+
+// The matrix of one copy.
+pub fn copy_transform(repeater: RepeaterStyle, copy: u64) -> Matrix
+    requires { ⌜ (within spec.mostOffset (repeater .offset) ≡ true) × (copy ≤ 4096) ⌝ }
+    ensures { λ r. ⌜ r ≡ spec.copyTransform repeater copy ⌝ }
+{
+    iteration_transform(repeater, repeater.offset + whole::from_whole(false, copy))
+}
+
+// The opacity of one copy of so many.
+fn opacity_of(start: f32, end: f32, count: u64, copy: u64) -> f32
+    requires { ⌜ (count ≤ 2 ^ 24) × (copy ≤ 2 ^ 24) ⌝ }
+    ensures { λ r. ⌜ r ≡ spec.opacityOf start end count copy ⌝ }
+{
+    if count <= 1 {
+        start
+    } else {
+        let progress = whole::from_whole(false, copy) / whole::from_whole(false, count - 1);
+        fused::mul_add(end - start, progress, start)
+    }
+}
+
+// How many copies there are.
+pub fn copy_count(repeater: RepeaterStyle) -> u64
+    requires { ⌜ within countLimit (repeater .copies) ≡ true ⌝ }
+    ensures { λ r. ⌜ (r ≡ spec.copyCount repeater) × (r ≤ 2 ^ 24) ⌝ }
+{
+    count::count_up(repeater.copies)
+}
+
+pub fn copy_opacity(repeater: RepeaterStyle, copy: u64) -> f32
+    requires { ⌜ (within countLimit (repeater .copies) ≡ true) × (copy ≤ 2 ^ 24) ⌝ }
+    ensures { λ r. ⌜ r ≡ spec.copyOpacity repeater copy ⌝ }
+{
+    opacity_of(
+        repeater.start_opacity,
+        repeater.end_opacity,
+        copy_count(repeater),
+        copy,
+    )
+}
