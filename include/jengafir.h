@@ -1,4 +1,5 @@
-/* The C interface of Jengafir: shapes drawn as path commands, paths measured and trimmed, and binary32 arithmetic. */
+/* The C interface of Jengafir: shapes drawn as path commands, paths measured, trimmed
+   and repeated, and binary32 arithmetic. */
 #ifndef JENGAFIR_H
 #define JENGAFIR_H
 
@@ -109,6 +110,27 @@ uint32_t jengafir_trim_ranges(float start, float end, float offset, float ranges
 uint32_t jengafir_trim_lengths(float start, float end, float offset, uint8_t mode, const uint8_t *codes,
                                size_t codes_len, const float *numbers, size_t numbers_len, float cuts[6],
                                size_t *range_count, uint32_t *whole);
+
+/* Of the two calls about a repeater: its eleven numbers are copies, offset, anchor x and y, position x and y, scale x
+   and y in per cent, rotation, and the opacities of the first and of the last copy. There are as many copies as the
+   ceiling of `copies` says, none where it is negative. The mode may be any. No pointer is null, and places that are
+   lent for writing overlap nothing else that is lent.
+   Refuses a repeater of more than 4,096 copies, or with an absolute offset over 4,096, with 2; a number that is not
+   finite, or over 1,048,576 in absolute value, with 3; and a rotation that is not zero with 5.
+   On acceptance the answer stands at the start of the buffer and the count says how many entries it has; places past it
+   keep their content. On a refusal the count is 0 and the buffer keeps its content. */
+
+/* Puts down the copies in the order in which they are drawn: 0, 1, .. in mode 1, else the other way round.
+   Refuses 2, 3, 5 as above, then an order that does not fit with 11. */
+uint32_t jengafir_copy_order(const float repeater[11], uint8_t mode, uint32_t *order, size_t order_len,
+                             size_t *order_count);
+
+/* Puts down seven numbers for one copy: its matrix a, b, c, d, e, f, which sends (p, q) to
+   (a p + c q + e, b p + d q + f), and its opacity.
+   Refuses 2, 3, 5 as above, then a copy that is not there with 9, numbers that are not finite with 10, and a buffer of
+   fewer than seven places with 11. */
+uint32_t jengafir_copy_transform(const float repeater[11], uint8_t mode, size_t copy, float *matrix, size_t matrix_len,
+                                 size_t *matrix_count);
 
 /* Each float function is defined for every float. */
 

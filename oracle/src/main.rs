@@ -10,6 +10,8 @@ mod lists;
 #[cfg(drawing)]
 mod plate;
 mod random;
+#[cfg(drawing)]
+mod repeater;
 mod report;
 mod root;
 #[cfg(drawing)]
@@ -31,6 +33,8 @@ const PARTS: &[Part] = &[
     length::compare,
     #[cfg(drawing)]
     trim::compare,
+    #[cfg(drawing)]
+    repeater::compare,
     #[cfg(drawing)]
     plate::compare,
 ];

@@ -1,4 +1,4 @@
-//! The Rust's own drawing, measuring and trimming functions, cut by name out of its text, over stand-ins as document 01 has them.
+//! The Rust's own functions for drawing, measuring, trimming and repeating, cut by name out of its text, over stand-ins as document 01 has them.
 
 mod root;
 
@@ -157,6 +157,77 @@ pub struct TrimStyle {
     pub mode: u8,
 }
 
+/// A repeater, sampled already.
+pub struct RepeaterStyle {
+    pub copies: f32,
+    pub offset: f32,
+    pub mode: u8,
+    pub anchor: [f32; 2],
+    pub position: [f32; 2],
+    pub scale: [f32; 2],
+    pub rotation: f32,
+    pub start_opacity: f32,
+    pub end_opacity: f32,
+}
+
+/// Sends (p, q) to (a p + c q + e, b p + d q + f), the six numbers being a to f.
+#[derive(Clone, Copy)]
+pub struct PixmapTransform(pub [f32; 6]);
+
+impl PixmapTransform {
+    fn identity() -> PixmapTransform {
+        PixmapTransform([1.0, 0.0, 0.0, 1.0, 0.0, 0.0])
+    }
+
+    fn product(self, right: PixmapTransform) -> PixmapTransform {
+        let [a, b, c, d, e, f] = self.0;
+        let [p, q, r, s, t, u] = right.0;
+        PixmapTransform([
+            a * p + c * q,
+            b * p + d * q,
+            a * r + c * s,
+            b * r + d * s,
+            a * t + c * u + e,
+            b * t + d * u + f,
+        ])
+    }
+
+    fn pre_translate(self, x: f32, y: f32) -> PixmapTransform {
+        let [a, b, c, d, e, f] = self.0;
+        PixmapTransform([a, b, c, d, a * x + c * y + e, b * x + d * y + f])
+    }
+
+    fn pre_scale(self, x: f32, y: f32) -> PixmapTransform {
+        let [a, b, c, d, e, f] = self.0;
+        PixmapTransform([a * x, b * x, c * y, d * y, e, f])
+    }
+
+    /// Only a rotation of zero is asked for here, which leaves the matrix as it is.
+    fn pre_rotate(self, angle: f32) -> PixmapTransform {
+        assert!(angle == 0.0);
+        self
+    }
+}
+
+#[derive(Clone, Copy)]
+pub struct RenderTransform {
+    pub matrix: PixmapTransform,
+    pub opacity: f32,
+}
+
+impl Default for RenderTransform {
+    fn default() -> RenderTransform {
+        RenderTransform { matrix: PixmapTransform::identity(), opacity: 1.0 }
+    }
+}
+
+impl RenderTransform {
+    /// The transform so far on the left, the step on the right.
+    fn concat(self, step: RenderTransform) -> RenderTransform {
+        RenderTransform { matrix: self.matrix.product(step.matrix), opacity: self.opacity * step.opacity }
+    }
+}
+
 /// A rectangle's numbers, sampled already.
 pub struct ShapeItem {
     pub position: Option<[f32; 2]>,
@@ -234,6 +305,7 @@ mod drawing_paths {
     use crate::exact::distance;
     use crate::values::{position_vec2_at, scalar_at, vec2_at};
     use crate::{BezierPath, Path, PathBuilder, PathSegment, Rect, ShapeItem, TinyStrokeDash, TrimStyle};
+    use crate::{PixmapTransform, RenderTransform, RepeaterStyle};
     use std::mem;
 
     include!("../../target/oracle/rust_text.rs");
@@ -254,6 +326,14 @@ mod drawing_paths {
 
     pub fn trimmed(path: &Path, trim: &TrimStyle) -> Option<Path> {
         trim_path(path, trim)
+    }
+
+    pub fn copy_order(repeater: &RepeaterStyle) -> Vec<usize> {
+        repeater_copy_order(repeater)
+    }
+
+    pub fn copy_transform(repeater: &RepeaterStyle, copy: usize) -> RenderTransform {
+        repeater_transform_for_copy(repeater, copy)
     }
 }
 
@@ -280,4 +360,14 @@ pub fn trim_ranges(trim: &TrimStyle) -> (Vec<(f32, f32)>, bool) {
 /// The recorded dashes of a trimmed path, three numbers each; the path itself where it is visible whole.
 pub fn trimmed(path: &Path, trim: &TrimStyle) -> Option<Path> {
     drawing_paths::trimmed(path, trim)
+}
+
+/// The copies of a repeater in the order in which they are drawn.
+pub fn copy_order(repeater: &RepeaterStyle) -> Vec<usize> {
+    drawing_paths::copy_order(repeater)
+}
+
+/// The matrix and the opacity of one copy.
+pub fn copy_transform(repeater: &RepeaterStyle, copy: usize) -> RenderTransform {
+    drawing_paths::copy_transform(repeater, copy)
 }

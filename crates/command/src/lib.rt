@@ -135,7 +135,7 @@ pub fn put_four(numbers: &mut [f32], at: usize, ax: f32, ay: f32, x: f32, y: f32
 }
 
 // Six numbers at a place, and the place after them.
-fn put_six(
+pub fn put_six(
     numbers: &mut [f32],
     at: usize,
     ax: f32,

@@ -15,6 +15,8 @@ ghost use Rattle.judge.specs.Lists.{Located, findCommand};
 ghost use Rattle.length.specs.Lists.{Told, measureList};
 ghost use Rattle.cut.specs.Calls.{trimRanges, trimLengths};
 ghost use Rattle.cut.specs.Answers.{rangesAnswer, lengthsAnswer, Placed};
+ghost use Rattle.copies.specs.Answers as Copies;
+ghost use Rattle.copies.specs.Calls.{repeaterOf, orderAnswer, transformAnswer};
 use cut::Shown;
 use cut::Trimmed;
 use length::Measured;
@@ -206,4 +208,37 @@ pub extern "C" fn jengafir_trim_lengths(
             0
         }
     }
+}
+
+#[no_mangle]
+pub extern "C" fn jengafir_copy_order(
+    repeater: &[f32; 11],
+    mode: u8,
+    order: &mut [u32],
+    order_count: &mut usize,
+) -> u32
+    ensures { λ r. ⌜ Copies.Filled
+        (Copies.fitted (length (now (order .entry))) (orderAnswer (repeaterOf (now (repeater .entry)) mode)))
+        r (now («order_count» .exit)) (now (order .entry)) (now (order .exit)) ⌝ }
+{
+    let written = copies::copy_order(copies::repeater_of(repeater, mode), order);
+    *order_count = copies::written_count(written);
+    copies::written_number(written)
+}
+
+#[no_mangle]
+pub extern "C" fn jengafir_copy_transform(
+    repeater: &[f32; 11],
+    mode: u8,
+    copy: usize,
+    matrix: &mut [f32],
+    matrix_count: &mut usize,
+) -> u32
+    ensures { λ r. ⌜ Copies.Filled
+        (Copies.fitted (length (now (matrix .entry))) (transformAnswer (repeaterOf (now (repeater .entry)) mode) copy))
+        r (now («matrix_count» .exit)) (now (matrix .entry)) (now (matrix .exit)) ⌝ }
+{
+    let written = copies::copy_transform(copies::repeater_of(repeater, mode), copy, matrix);
+    *matrix_count = copies::written_count(written);
+    copies::written_number(written)
 }

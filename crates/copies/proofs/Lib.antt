@@ -1,0 +1,2 @@
+-- What the proofs of `copies` cite.
+pub mod Ways

@@ -1,0 +1,440 @@
+-- What each way out of a function of this crate owes, as the code meets it: a premise for each test and for each call's result.
+-- Assumes nothing.
+use mathlib.Core.Path.{_≡_, refl, sym, ap, _∙_, subst}
+use mathlib.Core.Bool.{Bool, true, false, cond, not, _&&_, _||_, true≢false}
+use mathlib.Core.List.{List, [], _∷_}
+use Prim.Native.Nat.{ℕ, zero, suc, _+_, _-_, _*_, _^_, _≤_, _<_, zero-le}
+use native.Mathlib.Nat.{sub-zero, mul-one, le-trans}
+use native.Mathlib.Numerals.{add-one}
+use native.Mathlib.Omega.{arith}
+use lib.Dec.{T, eqb, ltb, leb, lit≤, lit<}
+use lib.Ieee.{Float, nan, inf, fin, lt, le, eq, up, down, ofBits, ofFields}
+use lib.Ieee.Bits.{is-true}
+use lib.Ieee.Exact.{HasValue}
+use lib.Ieee.Fits.{down-pos}
+use lib.Ieee.Scale.{finite}
+use lib.ListN.{length, getD, drop, set, length-set, drop-of-length-le}
+use lib.Seq.{sets, length-sets, drop-cons}
+use borrow.Author.Tests.{eq-eqb, ne-eqb, lt-ltb, le-ltb, le-leb, lt-leb}
+use Rattle.ieee.specs.Literal.{zero32}
+use Rattle.ieee.specs.Sign.{abs, isNumber}
+use Rattle.ieee.specs.Limit.{within, allWithin, Bounded}
+use Rattle.ieee.specs.Whole.{wholeUp}
+use Rattle.ieee.proofs.Bounds.{within→bounded}
+use Rattle.ieee.proofs.Order.{le-number-l, not-lt→le}
+use Rattle.ieee.proofs.Whole.{up-mono}
+use Rattle.count.specs.Count.{countUp, countLimit}
+use Rattle.command.specs.declared.Refusal.{Refusal}
+use Rattle.command.specs.declared.Refusal.the-variants.{TooMany, OutOfRange, Unsupported, NoSuchCopy, NotFinite, BufferTooSmall}
+use Rattle.command.specs.Commands.{onto}
+use Rattle.command.specs.Refusals.{refusalNumber}
+use Rattle.command.proofs.Buffers.{sets-append, sets-onto}
+use Rattle.repeater.specs.declared.Matrix.{Matrix}
+use Rattle.repeater.specs.declared.RepeaterStyle.{RepeaterStyle}
+use Rattle.repeater.specs.Repeater.{mostOffset, copyCount, copyTransform, copyOpacity}
+use Rattle.copies.specs.declared.Verdict.{Verdict}
+use Rattle.copies.specs.declared.Verdict.the-variants.{Fault, Sound}
+use Rattle.copies.specs.declared.Written.{Written}
+use Rattle.copies.specs.declared.Written.the-variants.{Refused, Count}
+use Rattle.copies.specs.Answers.{Answer, refused, answered, answerNumber, answerList, fitted, Filled, writtenNumber, writtenCount}
+use Rattle.copies.specs.Order.{rising, falling, orderOf, copyOrder}
+use Rattle.copies.specs.Calls.{repeaterNumbers, isCrowded, repeaterLimit, verdictOf, after, orderAnswer, copyNumbers, allFinite, finiteAnswer, copyAnswer, transformAnswer}
+
+-- ---- verdict_of
+module _ (r : RepeaterStyle) where
+  pub crowded-copies : lt mostOffset (r .copies) ≡ true → true ≡ isCrowded r
+  unfolding isCrowded
+  crowded-copies h = rw h
+
+  pub crowded-offset : lt mostOffset (r .copies) ≡ false → (a : Float) → a ≡ abs (r .offset) → lt mostOffset a ≡ isCrowded r
+  unfolding isCrowded
+  crowded-offset h a e = ap (lt mostOffset) e ∙ rw h
+
+  module _ (x : Bool) (x-is : x ≡ isCrowded r) where
+    pub verdict-crowded : x ≡ true → Fault TooMany ≡ verdictOf r
+    unfolding verdictOf
+    verdict-crowded t = rw (sym x-is ∙ t)
+
+    module _ (few : x ≡ false) (y : Bool) (y-is : y ≡ allWithin repeaterLimit (repeaterNumbers r)) where
+      pub verdict-beyond : y ≡ false → Fault OutOfRange ≡ verdictOf r
+      unfolding verdictOf
+      verdict-beyond t = rw (sym x-is ∙ few, sym y-is ∙ t)
+
+      module _ (inside : y ≡ true) where
+        pub verdict-sound : eq (r .rotation) zero32 ≡ true → Sound ≡ verdictOf r
+        unfolding verdictOf
+        verdict-sound t = rw (sym x-is ∙ few, sym y-is ∙ inside, t)
+
+        pub verdict-turned : eq (r .rotation) zero32 ≡ false → Fault Unsupported ≡ verdictOf r
+        unfolding verdictOf
+        verdict-turned t = rw (sym x-is ∙ few, sym y-is ∙ inside, t)
+
+pub ruleset verdicts = (crowded-copies, crowded-offset, verdict-crowded, verdict-beyond, verdict-sound, verdict-turned)
+
+-- ---- put_rising, put_falling
+-- the rest, written on the list as it is, gives the whole on the list as it was
+pub record Rising (n : ℕ) (l₀ l : List ℕ) (i : ℕ) : Type 0 where
+  pub rest : sets l i (rising i (n - i)) ≡ sets l₀ 0 (rising 0 n)
+  pub same : length l ≡ length l₀
+  pub inside : i ≤ n
+  pub room : n ≤ length l
+  pub few : n ≤ 4096
+
+pub rising-start : (n : ℕ) (l : List ℕ) → (n ≤ length l) × (n ≤ 4096) → Rising n l l 0
+rising-start n l h = record { rest = ap (λ (k : ℕ). sets l 0 (rising 0 k)) (sub-zero n); same = refl; inside = omega arith; room = h .0; few = h .1 }
+
+module _ {n : ℕ} {l₀ l : List ℕ} {i : ℕ} (R : Rising n l₀ l i) where
+  pub rising-place : i < n → i < length l
+  rising-place h = let a = R .room in omega arith
+
+  pub rising-small : i < n → i < 4294967296
+  rising-small h = let a = R .few in omega arith
+
+  pub rising-next : i < n → (i' : ℕ) → i' ≡ i + 1 → Rising n l₀ (set l i i) i'
+  rising-next h i' e = record {
+    rest =
+        let s : i' ≡ suc i = e ∙ add-one i in
+        let m : n - i ≡ suc (n - suc i) = omega arith in
+        ap (λ (k : ℕ). sets (set l i i) k (rising k (n - k))) s ∙ sym (ap (λ (k : ℕ). sets l i (rising i k)) m ∙ step i (n - suc i)) ∙ R .rest;
+    same = length-set l i i ∙ R .same;
+    inside = omega arith;
+    room = let a = R .room in subst (λ (k : ℕ). n ≤ k) (sym (length-set l i i)) a;
+    few = R .few;
+  }
+    where
+      step : (i m : ℕ) → sets l i (rising i (suc m)) ≡ sets (set l i i) (suc i) (rising (suc i) m)
+      step i m = unfold rising in refl
+
+  pub rising-end : n ≤ i → l ≡ sets l₀ 0 (rising 0 n)
+  rising-end h =
+      let z : n - i ≡ 0 = omega arith in
+      sym (none i) ∙ sym (ap (λ (k : ℕ). sets l i (rising i k)) z) ∙ R .rest
+    where
+      none : (i : ℕ) → sets l i (rising i 0) ≡ l
+      none i = unfold rising in refl
+
+pub ruleset risings = (rising-start, rising-place, rising-small, rising-next, rising-end)
+
+pub record Falling (n : ℕ) (l₀ l : List ℕ) (i left : ℕ) : Type 0 where
+  pub rest : sets l i (falling left) ≡ sets l₀ 0 (falling n)
+  pub same : length l ≡ length l₀
+  pub sum : i + left ≡ n
+  pub room : n ≤ length l
+  pub few : n ≤ 4096
+
+pub falling-start : (n : ℕ) (l : List ℕ) → (n ≤ length l) × (n ≤ 4096) → Falling n l l 0 n
+falling-start n l h = record { rest = refl; same = refl; sum = omega arith; room = h .0; few = h .1 }
+
+module _ {n : ℕ} {l₀ l : List ℕ} {i left : ℕ} (F : Falling n l₀ l i left) where
+  pub falling-place : 0 < left → i < length l
+  falling-place h = let a = F .room in let b = F .sum in omega arith
+
+  pub falling-small : 0 < left → left - 1 < 4294967296
+  falling-small h = let a = F .few in let b = F .sum in omega arith
+
+  pub falling-next : 0 < left → (i' left' : ℕ) → i' ≡ i + 1 → left' ≡ left - 1 → Falling n l₀ (set l i left') i' left'
+  falling-next h i' left' e f = record {
+    rest =
+        let s : i' ≡ suc i = e ∙ add-one i in
+        let m : left ≡ suc left' = omega arith in
+        ap (λ (k : ℕ). sets (set l i left') k (falling left')) s ∙ sym (ap (λ (k : ℕ). sets l i (falling k)) m ∙ step left') ∙ F .rest;
+    same = length-set l i left' ∙ F .same;
+    sum = let b = F .sum in omega arith;
+    room = let a = F .room in subst (λ (k : ℕ). n ≤ k) (sym (length-set l i left')) a;
+    few = F .few;
+  }
+    where
+      step : (m : ℕ) → sets l i (falling (suc m)) ≡ sets (set l i m) (suc i) (falling m)
+      step m = unfold falling in refl
+
+  pub falling-end : left ≤ 0 → l ≡ sets l₀ 0 (falling n)
+  falling-end h =
+      let z : left ≡ 0 = omega arith in
+      sym none ∙ sym (ap (λ (k : ℕ). sets l i (falling k)) z) ∙ F .rest
+    where
+      none : sets l i (falling 0) ≡ l
+      none = unfold falling in refl
+
+pub ruleset fallings = (falling-start, falling-place, falling-small, falling-next, falling-end)
+
+-- ---- put_order
+module _ (mode n : ℕ) (l l' : List ℕ) where
+  pub order-rising : mode ≡ 1 → l' ≡ sets l 0 (rising 0 n) → l' ≡ sets l 0 (orderOf mode n)
+  unfolding orderOf
+  order-rising h e = e ∙ rw (eq-eqb mode 1 h)
+
+  pub order-falling : (mode ≡ 1 → ⊥) → l' ≡ sets l 0 (falling n) → l' ≡ sets l 0 (orderOf mode n)
+  unfolding orderOf
+  order-falling h e = e ∙ rw (ne-eqb mode 1 h)
+
+pub ruleset orders = (order-rising, order-falling)
+
+-- ---- are_finite
+-- the rest settles the answer
+pub finite-all : (v : List Float) → allFinite (drop 0 v) ≡ allFinite v
+finite-all v = refl
+
+module _ (v : List Float) (i : ℕ) (left : allFinite (drop i v) ≡ allFinite v) where
+  module _ (h : i < length v) (x : Bool) (x-is : x ≡ finite (getD v i nan)) where
+    here : (finite (getD v i nan) && allFinite (drop (suc i) v)) ≡ allFinite v
+    unfolding allFinite
+    here = ap allFinite (sym (drop-cons v i nan h)) ∙ left
+
+    pub finite-next : x ≡ true → (i' : ℕ) → i' ≡ i + 1 → allFinite (drop i' v) ≡ allFinite v
+    finite-next t i' e = ap (λ (k : ℕ). allFinite (drop k v)) (e ∙ add-one i) ∙ ap (λ (b : Bool). b && allFinite (drop (suc i) v)) (sym t ∙ x-is) ∙ here
+
+    pub finite-not : x ≡ false → false ≡ allFinite v
+    finite-not t = ap (λ (b : Bool). b && allFinite (drop (suc i) v)) (sym t ∙ x-is) ∙ here
+
+  pub finite-end : length v ≤ i → true ≡ allFinite v
+  unfolding allFinite
+  finite-end h = ap allFinite (sym (drop-of-length-le v {i = i} h)) ∙ left
+
+pub ruleset finites = (finite-all, finite-next, finite-not, finite-end)
+
+-- ---- put_copy
+pub copy-put : (m : Matrix) (o : Float) (l l' : List Float) (last : ℕ) → l' ≡ sets l 0 (m .a ∷ m .b ∷ m .c ∷ m .d ∷ m .e ∷ m .f ∷ []) → last ≡ 0 + 6 → set l' last o ≡ sets l 0 (copyNumbers m o)
+unfolding copyNumbers
+copy-put m o l l' last e f = rw (e, f) (sym (sets-append (m .a ∷ m .b ∷ m .c ∷ m .d ∷ m .e ∷ m .f ∷ []) (o ∷ []) l 0))
+
+pub copy-place : (l l' : List Float) (m : Matrix) (last : ℕ) → l' ≡ sets l 0 (m .a ∷ m .b ∷ m .c ∷ m .d ∷ m .e ∷ m .f ∷ []) → last ≡ 0 + 6 → 7 ≤ length l → last < length l'
+copy-place l l' m last e f h = rw (e, length-sets l 0 (m .a ∷ m .b ∷ m .c ∷ m .d ∷ m .e ∷ m .f ∷ [])) (omega arith)
+
+pub ruleset puts = (copy-put, copy-place)
+
+-- ---- answers
+module _ {A : Type 0} {a : Answer A} {l : List A} where
+  filled-refused : (r : Refusal) → refused r ≡ a → Filled a (refusalNumber r) 0 l l
+  filled-refused r e = record { number-is = ap answerNumber e; count-is = ap (λ (b : Answer A). length (answerList b)) e; filled = ap (λ (b : Answer A). onto (answerList b) l) e }
+
+  filled-answered : (xs : List A) → answered xs ≡ a → (n : ℕ) → n ≡ length xs → (l' : List A) → l' ≡ onto xs l → Filled a 0 n l l'
+  filled-answered xs e n n-is l' l-is = record {
+    number-is = ap answerNumber e;
+    count-is = n-is ∙ ap (λ (b : Answer A). length (answerList b)) e;
+    filled = l-is ∙ ap (λ (b : Answer A). onto (answerList b) l) e;
+  }
+
+fits : {A : Type 0} (n : ℕ) (xs : List A) → length xs ≤ n → answered xs ≡ fitted n (answered xs)
+unfolding fitted
+fits n xs h = rw (le-leb (length xs) n h)
+
+short : {A : Type 0} (n : ℕ) (xs : List A) → n < length xs → refused BufferTooSmall ≡ fitted n (answered xs)
+unfolding fitted
+short n xs h = rw (lt-leb (length xs) n h)
+
+back : {A : Type 0} (n : ℕ) (r : Refusal) (a : Answer A) → refused r ≡ a → refused r ≡ fitted n a
+unfolding fitted
+back n r a e = ap (fitted n) e
+
+-- ---- write_order
+rising-length : (i n : ℕ) → length (rising i n) ≡ n
+unfolding rising
+rising-length i zero = refl
+rising-length i (suc n) = ap suc (rising-length (suc i) n)
+
+falling-length : (n : ℕ) → length (falling n) ≡ n
+unfolding falling
+falling-length zero = refl
+falling-length (suc n) = ap suc (falling-length n)
+
+order-length : (mode n : ℕ) → length (orderOf mode n) ≡ n
+unfolding orderOf
+order-length mode n = go (eqb mode 1)
+  where
+    go : (b : Bool) → length (cond b (rising 0 n) (falling n)) ≡ n
+    go true = rising-length 0 n
+    go false = falling-length n
+
+module _ (mode n : ℕ) (l : List ℕ) where
+  pub order-written : (l' : List ℕ) → l' ≡ sets l 0 (orderOf mode n) → n ≤ length l → Filled (fitted (length l) (answered (orderOf mode n))) 0 n l l'
+  order-written l' e h =
+      let k : length (orderOf mode n) ≤ length l = rw (order-length mode n) h in
+      filled-answered (orderOf mode n) (fits (length l) (orderOf mode n) k) n (sym (order-length mode n)) l' (e ∙ sets-onto (orderOf mode n) l k)
+
+  pub order-short : length l < n → Filled (fitted (length l) (answered (orderOf mode n))) (refusalNumber BufferTooSmall) 0 l l
+  order-short h = filled-refused BufferTooSmall (short (length l) (orderOf mode n) (rw (order-length mode n) h))
+
+pub ruleset writes = (order-written, order-short)
+
+-- ---- what a sound repeater is
+most-value : HasValue mostOffset false 4096 1
+unfolding ofBits
+most-value = (refl, refl)
+
+whole-most : wholeUp 4096 1 ≡ 4096
+whole-most = refl
+
+most-number : T (isNumber mostOffset)
+unfolding ofBits ofFields
+most-number = tt
+
+not-above : (x : Float) → T (isNumber x) → lt mostOffset x ≡ false → le x mostOffset ≡ true
+not-above x h l = is-true (le x mostOffset) (not-lt→le mostOffset x most-number h (subst (λ (b : Bool). T (not b)) (sym l) tt))
+
+within-number : (x : Float) → within countLimit x ≡ true → T (isNumber x)
+within-number nan h = absurd (true≢false (sym (unfold le in h)))
+within-number (inf s) h = tt
+within-number (fin s m d) h = tt
+
+abbrev IsSound : Verdict → Type 0
+IsSound (Fault r) = ⊥
+IsSound Sound = Unit {0}
+
+fault-sound : (r : Refusal) {A : Type 0} → Fault r ≡ Sound → A
+fault-sound r e = absurd (subst IsSound (sym e) tt)
+
+sound-splits : (r : RepeaterStyle) → verdictOf r ≡ Sound → (lt mostOffset (r .copies) ≡ false) × (lt mostOffset (abs (r .offset)) ≡ false) × (allWithin repeaterLimit (repeaterNumbers r) ≡ true)
+unfolding verdictOf isCrowded
+sound-splits r e = go (lt mostOffset (r .copies)) (lt mostOffset (abs (r .offset))) (allWithin repeaterLimit (repeaterNumbers r)) (eq (r .rotation) zero32) e
+  where
+    go : (a b c d : Bool) → cond (a || b) (Fault TooMany) (cond c (cond d Sound (Fault Unsupported)) (Fault OutOfRange)) ≡ Sound → (a ≡ false) × (b ≡ false) × (c ≡ true)
+    go true b c d e = fault-sound TooMany e
+    go false true c d e = fault-sound TooMany e
+    go false false true d e = (refl, refl, refl)
+    go false false false d e = fault-sound OutOfRange e
+
+first : (a b : Bool) → (a && b) ≡ true → a ≡ true
+first true b e = refl
+first false b e = e
+
+second : (a b : Bool) → (a && b) ≡ true → b ≡ true
+second true b e = e
+second false b e = absurd (true≢false (sym e))
+
+module _ (r : RepeaterStyle) (e : verdictOf r ≡ Sound) where
+  pub copies-within : within countLimit (r .copies) ≡ true
+  unfolding allWithin
+  copies-within = first (within repeaterLimit (r .copies)) _ (sound-splits r e .2)
+
+  offset-limit : within repeaterLimit (r .offset) ≡ true
+  unfolding allWithin
+  offset-limit = first (within repeaterLimit (r .offset)) _ (second (within repeaterLimit (r .copies)) _ (sound-splits r e .2))
+
+  pub offset-within : within mostOffset (r .offset) ≡ true
+  offset-within = not-above (abs (r .offset)) (le-number-l (abs (r .offset)) repeaterLimit (subst T (sym offset-limit) tt)) (sound-splits r e .1)
+
+  few : (x : Float) → T (isNumber x) → lt mostOffset x ≡ false → countUp x ≤ 4096
+  few nan h l = zero-le
+  few (inf s) h l = zero-le
+  few (fin true m d) h l = zero-le
+  few (fin false m d) h l =
+      let b : Bounded 4096 (fin false m d) = within→bounded 4096 mostOffset (fin false m d) most-value (not-above (fin false m d) h l) in
+      subst (λ (k : ℕ). wholeUp (m * up d) (down d) ≤ k) whole-most (up-mono (m * up d) (down d) 4096 1 (down-pos d) (lit< tt) (subst (λ (k : ℕ). k ≤ 4096 * down d) (sym (mul-one (m * up d))) b))
+
+  pub count-few : copyCount r ≤ 4096
+  unfolding copyCount
+  count-few = few (r .copies) (within-number (r .copies) copies-within) (sound-splits r e .0)
+
+-- ---- copy_order, copy_transform
+module _ (r : RepeaterStyle) (v : Verdict) (v-is : v ≡ verdictOf r) where
+  module _ (f : Refusal) (e : v ≡ Fault f) where
+    fault-after : {A : Type 0} (a : Answer A) → refused f ≡ after (verdictOf r) a
+    unfolding after
+    fault-after a = ap (λ (w : Verdict). after w a) (sym e ∙ v-is)
+
+    pub order-fault : (l : List ℕ) → Filled (fitted (length l) (orderAnswer r)) (refusalNumber f) 0 l l
+    unfolding orderAnswer
+    order-fault l = filled-refused f (back (length l) f (orderAnswer r) (fault-after (answered (copyOrder r))))
+
+    pub copy-fault : (copy : ℕ) (l : List Float) → Filled (fitted (length l) (transformAnswer r copy)) (refusalNumber f) 0 l l
+    unfolding transformAnswer
+    copy-fault copy l = filled-refused f (back (length l) f (transformAnswer r copy) (fault-after (copyAnswer r copy)))
+
+  module _ (e : v ≡ Sound) where
+    pub is-sound : verdictOf r ≡ Sound
+    is-sound = sym v-is ∙ e
+
+    sound-after : {A : Type 0} (a : Answer A) → a ≡ after (verdictOf r) a
+    unfolding after
+    sound-after a = ap (λ (w : Verdict). after w a) (sym e ∙ v-is)
+
+    pub order-copies : within countLimit (r .copies) ≡ true
+    order-copies = copies-within r is-sound
+
+    pub order-few : (n : ℕ) → n ≡ copyCount r → n ≤ 4096
+    order-few n n-is = rw n-is (count-few r is-sound)
+
+    pub order-sound : (n : ℕ) → n ≡ copyCount r → (w : Written) (l l' : List ℕ) → Filled (fitted (length l) (answered (orderOf (r .mode) n))) (writtenNumber w) (writtenCount w) l l'
+        → Filled (fitted (length l) (orderAnswer r)) (writtenNumber w) (writtenCount w) l l'
+    unfolding orderAnswer copyOrder
+    order-sound n n-is w l l' F =
+        subst (λ (a : Answer ℕ). Filled (fitted (length l) a) (writtenNumber w) (writtenCount w) l l')
+        (ap (λ (k : ℕ). answered (orderOf (r .mode) k)) n-is ∙ sound-after (answered (orderOf (r .mode) (copyCount r)))) F
+
+    pub copy-sound : (copy : ℕ) (w : Written) (l l' : List Float) → Filled (fitted (length l) (copyAnswer r copy)) (writtenNumber w) (writtenCount w) l l'
+        → Filled (fitted (length l) (transformAnswer r copy)) (writtenNumber w) (writtenCount w) l l'
+    unfolding transformAnswer
+    copy-sound copy w l l' F = subst (λ (a : Answer Float). Filled (fitted (length l) a) (writtenNumber w) (writtenCount w) l l') (sound-after (copyAnswer r copy)) F
+
+pub ruleset calls = (order-fault, copy-fault, is-sound, order-copies, order-few, order-sound, copy-sound)
+
+-- ---- write_copy
+pub finite-copy : (m : Matrix) (o : Float) (x : Bool) → x ≡ allFinite (m .a ∷ m .b ∷ m .c ∷ m .d ∷ m .e ∷ m .f ∷ o ∷ []) → x ≡ allFinite (copyNumbers m o)
+unfolding copyNumbers
+finite-copy m o x e = e
+
+seven : (m : Matrix) (o : Float) → length (copyNumbers m o) ≡ 7
+unfolding copyNumbers
+seven m o = refl
+
+module _ (m : Matrix) (o : Float) (x : Bool) (x-is : x ≡ allFinite (copyNumbers m o)) (l : List Float) where
+  pub copy-burst : x ≡ false → Filled (fitted (length l) (finiteAnswer (copyNumbers m o))) (refusalNumber NotFinite) 0 l l
+  copy-burst t = filled-refused NotFinite (back (length l) NotFinite (finiteAnswer (copyNumbers m o)) is)
+    where
+      is : refused NotFinite ≡ finiteAnswer (copyNumbers m o)
+      is = unfold finiteAnswer in (rw (sym x-is ∙ t))
+
+  module _ (t : x ≡ true) where
+    finite-is : answered (copyNumbers m o) ≡ finiteAnswer (copyNumbers m o)
+    unfolding finiteAnswer
+    finite-is = rw (sym x-is ∙ t)
+
+    pub copy-short : length l < 7 → Filled (fitted (length l) (finiteAnswer (copyNumbers m o))) (refusalNumber BufferTooSmall) 0 l l
+    copy-short h =
+        filled-refused BufferTooSmall
+        (short (length l) (copyNumbers m o) (subst (λ (k : ℕ). length l < k) (sym (seven m o)) h) ∙ ap (fitted (length l)) finite-is)
+
+    pub copy-written : 7 ≤ length l → (l' : List Float) → l' ≡ sets l 0 (copyNumbers m o) → Filled (fitted (length l) (finiteAnswer (copyNumbers m o))) 0 7 l l'
+    copy-written h l' e =
+        let k : length (copyNumbers m o) ≤ length l = subst (λ (n : ℕ). n ≤ length l) (sym (seven m o)) h in
+        filled-answered (copyNumbers m o) (fits (length l) (copyNumbers m o) k ∙ ap (fitted (length l)) finite-is) 7 (sym (seven m o)) l' (e ∙ sets-onto (copyNumbers m o) l k)
+
+pub ruleset written = (finite-copy, copy-burst, copy-short, copy-written)
+
+-- ---- write_sound
+module _ (r : RepeaterStyle) (e : verdictOf r ≡ Sound) (n : ℕ) (n-is : n ≡ copyCount r) (copy : ℕ) where
+  pub copy-missing : n ≤ copy → (l : List Float) → Filled (fitted (length l) (copyAnswer r copy)) (refusalNumber NoSuchCopy) 0 l l
+  copy-missing h l = filled-refused NoSuchCopy (back (length l) NoSuchCopy (copyAnswer r copy) is)
+    where
+      is : refused NoSuchCopy ≡ copyAnswer r copy
+      is = unfold copyAnswer in (rw (le-ltb copy (copyCount r) (subst (λ (k : ℕ). k ≤ copy) n-is h)))
+
+  module _ (h : copy < n) where
+    pub copy-few : copy ≤ 4096
+    copy-few = let a = count-few r e in omega arith
+
+    pub copy-small : copy ≤ 2 ^ 24
+    copy-small = let a = copy-few in le-trans a (lit≤ tt)
+
+    pub copy-told : (m : Matrix) (o : Float) → m ≡ copyTransform r copy → o ≡ copyOpacity r copy → (w : Written) (l l' : List Float)
+        → Filled (fitted (length l) (finiteAnswer (copyNumbers m o))) (writtenNumber w) (writtenCount w) l l' → Filled (fitted (length l) (copyAnswer r copy)) (writtenNumber w) (writtenCount w) l l'
+    copy-told m o m-is o-is w l l' F =
+        subst (λ (a : Answer Float). Filled (fitted (length l) a) (writtenNumber w) (writtenCount w) l l') ((λ i. finiteAnswer (copyNumbers (m-is i) (o-is i))) ∙ is) F
+      where
+        is : finiteAnswer (copyNumbers (copyTransform r copy) (copyOpacity r copy)) ≡ copyAnswer r copy
+        is = unfold copyAnswer in (rw (lt-ltb copy (copyCount r) (subst (λ (k : ℕ). copy < k) n-is h)))
+
+pub ruleset sounds = (copies-within, offset-within, copy-missing, copy-few, copy-small, copy-told)
+
+-- ---- callers that tell the answer in a number and a count
+module _ (r r' : RepeaterStyle) (e : r ≡ r') (w : Written) (number count : ℕ) (number-is : number ≡ writtenNumber w) (count-is : count ≡ writtenCount w) where
+  pub order-told : (l l' : List ℕ) → Filled (fitted (length l) (orderAnswer r)) (writtenNumber w) (writtenCount w) l l' → Filled (fitted (length l) (orderAnswer r')) number count l l'
+  order-told l l' F =
+      rw (number-is, count-is) (subst (λ (s : RepeaterStyle). Filled (fitted (length l) (orderAnswer s)) (writtenNumber w) (writtenCount w) l l') e F)
+
+  pub transform-told : (copy : ℕ) (l l' : List Float) → Filled (fitted (length l) (transformAnswer r copy)) (writtenNumber w) (writtenCount w) l l'
+      → Filled (fitted (length l) (transformAnswer r' copy)) number count l l'
+  transform-told copy l l' F =
+      rw (number-is, count-is) (subst (λ (s : RepeaterStyle). Filled (fitted (length l) (transformAnswer s copy)) (writtenNumber w) (writtenCount w) l l') e F)
+
+pub ruleset telling = (order-told, transform-told)

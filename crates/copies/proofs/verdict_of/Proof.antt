@@ -1,0 +1,28 @@
+-- `copies::verdict_of` meets its contract. Assumes nothing.
+use borrow.Author.Needs.{needs}
+use Rattle.copies.proofs.Ways.{verdicts}
+use Rattle.copies.proofs.verdict_of.Statement.{statement}
+use Rattle.copies.proofs.verdict_of.Tie as tie
+
+is-crowded-requires : tie.Need-is-crowded-requires
+is-crowded-requires c κs = search (needs, verdicts)
+
+returns : tie.Need-returns
+returns c = search (needs, verdicts)
+
+is-within-requires : tie.Need-is-within-requires
+is-within-requires c κs = search (needs, verdicts)
+
+returns-2 : tie.Need-returns-2
+returns-2 c = search (needs, verdicts)
+
+returns-3 : tie.Need-returns-3
+returns-3 c = search (needs, verdicts)
+
+returns-4 : tie.Need-returns-4
+returns-4 c = search (needs, verdicts)
+
+pub verdict-of-spec : {M : Type 1} → statement M
+verdict-of-spec =
+    tie.close
+    (tie.spec is-crowded-requires returns is-within-requires returns-2 returns-3 returns-4)

@@ -1,0 +1,4 @@
+-- The calls of a repeater: the order of its copies, and the numbers of one of them.
+pub mod Answers
+pub mod Order
+pub mod Calls

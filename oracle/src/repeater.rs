@@ -1,0 +1,241 @@
+//! Compares repeaters: the Rust's own functions, under document 01's refusals, against ours.
+
+use crate::draw::check;
+use crate::random::Random;
+use crate::report::{Outcomes, Report};
+use source::RepeaterStyle;
+
+extern "C" {
+    fn jengafir_copy_order(
+        repeater: *const f32,
+        mode: u8,
+        order: *mut u32,
+        order_len: usize,
+        order_count: *mut usize,
+    ) -> u32;
+    fn jengafir_copy_transform(
+        repeater: *const f32,
+        mode: u8,
+        copy: usize,
+        matrix: *mut f32,
+        matrix_len: usize,
+        matrix_count: *mut usize,
+    ) -> u32;
+}
+
+const MOST: f32 = 4096.0;
+const LIMIT: f32 = 1_048_576.0;
+/// An order for so many copies that are compared: it may have 4,096 entries.
+const ONE_ORDER_IN: usize = 16;
+
+pub fn compare(random: &mut Random, count: usize, report: &mut Report) {
+    let mut orders: Outcomes = [0; 13];
+    let mut copies: Outcomes = [0; 13];
+    for i in 0..count {
+        let (numbers, mode) = any_repeater(random);
+        if i % ONE_ORDER_IN == 0 {
+            compare_order(random, report, &mut orders, &numbers, mode);
+        }
+        compare_copy(random, report, &mut copies, &numbers, mode);
+    }
+    report.outcomes.push(("copy_order", orders));
+    report.outcomes.push(("copy_transform", copies));
+}
+
+// Repeaters.
+
+/// Numbers at which a repeater changes its form, and numbers that it refuses.
+const ODDITIES: [f32; 16] = [
+    0.0, -0.0, 1.0, -1.0, 0.5, 1e-45, -1e-45, 1.1920929e-7, -1.1920929e-7, 1.1920930e-7, LIMIT, -LIMIT, 1_048_576.1,
+    f32::INFINITY, f32::NEG_INFINITY, f32::NAN,
+];
+
+fn oddity(random: &mut Random) -> f32 {
+    ODDITIES[random.bits(32) as usize % ODDITIES.len()]
+}
+
+fn any_copies(random: &mut Random) -> f32 {
+    match random.bits(4) {
+        0 => oddity(random),
+        1 => random.nudged(MOST),
+        2 => random.nudged(4095.0),
+        3 => random.between(0, 4096) as f32,
+        4 => {
+            let whole = random.between(0, 20) as f32;
+            random.nudged(whole)
+        }
+        5 => random.float(),
+        _ => random.between(0, 200) as f32 / 10.0,
+    }
+}
+
+fn any_offset(random: &mut Random) -> f32 {
+    match random.bits(4) {
+        0 => oddity(random),
+        1 => random.sign() * random.nudged(MOST),
+        2 => random.float(),
+        3 => -(random.between(0, 20) as f32) + random.nudged(1.1920929e-7),
+        4 | 5 => random.between(-40, 40) as f32,
+        6 => random.sign() * random.bits(24) as f32 / 4096.0,
+        _ => random.between(-3000, 3000) as f32 / 100.0,
+    }
+}
+
+fn any_place(random: &mut Random) -> f32 {
+    match random.bits(3) {
+        0 => oddity(random),
+        1 => random.float(),
+        2 => random.sign() * 0.0,
+        3 => random.between(-1 << 23, 1 << 23) as f32 / 1024.0,
+        _ => random.with_exponent(-6, 12),
+    }
+}
+
+fn any_scale(random: &mut Random) -> f32 {
+    match random.bits(3) {
+        0 => oddity(random),
+        1 => random.sign() * random.bits(20) as f32,
+        2 => random.nudged(100.0),
+        3 | 4 => 100.0,
+        5 => random.float(),
+        _ => random.between(-2000, 30_000) as f32 / 100.0,
+    }
+}
+
+/// The eleven numbers as C lends them, and the mode. Now and then one of them is of any kind, or the rotation is not zero.
+fn any_repeater(random: &mut Random) -> ([f32; 11], u8) {
+    let mut numbers = [0.0; 11];
+    numbers[0] = any_copies(random);
+    numbers[1] = any_offset(random);
+    let alike = random.bits(1) == 0;
+    for i in 2..6 {
+        numbers[i] = any_place(random);
+    }
+    for i in 6..8 {
+        numbers[i] = if alike { 100.0 } else { any_scale(random) };
+    }
+    numbers[8] = if random.bits(3) == 0 { oddity(random) } else { random.sign() * 0.0 };
+    for i in 9..11 {
+        numbers[i] = if random.bits(2) == 0 { any_place(random) } else { random.bits(10) as f32 / 1024.0 };
+    }
+    if random.bits(1) == 0 {
+        for x in &mut numbers {
+            if !(x.abs() <= LIMIT) {
+                *x = 2.5;
+            }
+        }
+    }
+    let mode = if random.bits(1) == 0 { 1 } else { random.bits(8) as u8 };
+    (numbers, mode)
+}
+
+fn style(numbers: &[f32; 11], mode: u8) -> RepeaterStyle {
+    let &[copies, offset, ax, ay, px, py, sx, sy, rotation, start_opacity, end_opacity] = numbers;
+    RepeaterStyle {
+        copies,
+        offset,
+        mode,
+        anchor: [ax, ay],
+        position: [px, py],
+        scale: [sx, sy],
+        rotation,
+        start_opacity,
+        end_opacity,
+    }
+}
+
+/// The checks in document 01's order: 2, 3, 5.
+fn sound(numbers: &[f32; 11]) -> Result<(), u32> {
+    check(!(numbers[0].ceil() > MOST || numbers[1].abs() > MOST), 2)?;
+    check(numbers.iter().all(|x| x.abs() <= LIMIT), 3)?;
+    check(numbers[8] == 0.0, 5)
+}
+
+// The comparison.
+
+/// All that a call leaves behind: the number, the count, and every place of the buffer with a few past it.
+#[derive(Debug, PartialEq)]
+struct Left {
+    number: u32,
+    count: usize,
+    places: Vec<u32>,
+}
+
+const PAST: usize = 3;
+
+impl Left {
+    fn before(length: usize) -> Left {
+        let places = (0..length + PAST).map(|i| 0xffc0_0000 + i as u32).collect();
+        Left { number: u32::MAX, count: usize::MAX, places }
+    }
+
+    /// What is to be left behind in a buffer of this length: the answer, if it fits.
+    fn theirs(answer: Result<Vec<u32>, u32>, length: usize) -> Left {
+        let mut left = Left { number: 0, count: 0, ..Left::before(length) };
+        match answer {
+            Err(refusal) => left.number = refusal,
+            Ok(entries) if entries.len() <= length => {
+                left.count = entries.len();
+                left.places[..entries.len()].copy_from_slice(&entries);
+            }
+            Ok(_) => left.number = 11,
+        }
+        left
+    }
+}
+
+/// A buffer that is ample, exactly full, one short or empty.
+fn any_length(random: &mut Random, needed: usize) -> usize {
+    match random.bits(3) {
+        0 => needed.saturating_sub(1),
+        1 => needed + random.between(1, 9) as usize,
+        2 if random.bits(2) == 0 => 0,
+        _ => needed,
+    }
+}
+
+fn compare_order(random: &mut Random, report: &mut Report, outcomes: &mut Outcomes, numbers: &[f32; 11], mode: u8) {
+    let answer = sound(numbers).map(|()| {
+        let order = source::copy_order(&style(numbers, mode));
+        order.into_iter().map(|copy| copy as u32).collect::<Vec<u32>>()
+    });
+    let length = any_length(random, answer.as_ref().map_or(4, Vec::len));
+    let theirs = Left::theirs(answer, length);
+    let mut ours = Left::before(length);
+    ours.number = unsafe {
+        jengafir_copy_order(numbers.as_ptr(), mode, ours.places.as_mut_ptr(), length, &mut ours.count)
+    };
+    outcomes[theirs.number as usize] += 1;
+    report.count(ours == theirs, || format!("order of {numbers:?}, mode {mode}: ours {} {}, theirs {} {}", ours.number, ours.count, theirs.number, theirs.count));
+}
+
+fn compare_copy(random: &mut Random, report: &mut Report, outcomes: &mut Outcomes, numbers: &[f32; 11], mode: u8) {
+    let count = sound(numbers).map(|()| numbers[0].ceil().max(0.0) as usize);
+    let copy = any_copy(random, count.unwrap_or(3));
+    let answer = count.and_then(|count| {
+        check(copy < count, 9)?;
+        let transform = source::copy_transform(&style(numbers, mode), copy);
+        let mut answer = transform.matrix.0.to_vec();
+        answer.push(transform.opacity);
+        check(answer.iter().all(|x| x.is_finite()), 10)?;
+        Ok(answer.into_iter().map(f32::to_bits).collect())
+    });
+    let length = any_length(random, 7);
+    let theirs = Left::theirs(answer, length);
+    let mut ours = Left::before(length);
+    let places = ours.places.as_mut_ptr().cast();
+    ours.number = unsafe { jengafir_copy_transform(numbers.as_ptr(), mode, copy, places, length, &mut ours.count) };
+    outcomes[theirs.number as usize] += 1;
+    report.count(ours == theirs, || format!("copy {copy} of {numbers:?}: ours {ours:x?}, theirs {theirs:x?}"));
+}
+
+/// Mostly a copy that is there, and mostly one of the first; at times one past the last, or a huge one.
+fn any_copy(random: &mut Random, count: usize) -> usize {
+    match random.bits(4) {
+        0 => count,
+        1 => count.saturating_sub(1),
+        2 => usize::MAX >> random.bits(6),
+        3 => random.bits(32) as usize % count.max(1),
+        _ => random.bits(3) as usize % count.max(1),
+    }
+}
