@@ -5,6 +5,8 @@ mod draw;
 #[cfg(drawing)]
 mod length;
 #[cfg(drawing)]
+mod repeater;
+#[cfg(drawing)]
 mod trim;
 
 use std::hint::black_box;
@@ -71,5 +73,6 @@ fn main() {
         draw::run();
         length::run();
         trim::run();
+        repeater::run();
     }
 }
