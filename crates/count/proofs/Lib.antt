@@ -1,2 +1,3 @@
 -- What the proofs of `count` cite.
 pub mod Ways
+mod Cases

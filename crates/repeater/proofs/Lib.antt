@@ -1,2 +1,3 @@
 -- What the proofs of `repeater` cite.
 pub mod Ways
+mod Cases
