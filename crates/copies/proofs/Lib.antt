@@ -1,2 +1,3 @@
--- What the proofs of `copies` cite.
+-- What the proofs of `copies` cite, and closed cases.
 pub mod Ways
+mod Cases
