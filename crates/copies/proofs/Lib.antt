@@ -1,3 +1,4 @@
--- What the proofs of `copies` cite, and closed cases.
+-- What the proofs of `copies` cite, their enlargement, and closed cases.
 pub mod Ways
+pub mod Enlarged
 mod Cases
