@@ -21,10 +21,11 @@ use Rattle.rect.specs.Rect.{rectCorners}
 use Rattle.rect.proofs.Sound.{rect-sound}
 use Rattle.shape.specs.declared.Shape.the-variants.{Path, Rect}
 use Rattle.shape.specs.Shape.{shapeCommands}
-use Rattle.draw.specs.declared.ItemRow.{ItemRow}
+use Rattle.item.specs.declared.ItemRow.{ItemRow}
+use Rattle.item.specs.Rows.{itemRow, isPath}
 use Rattle.draw.specs.Checks.{coordinateLimit}
 use Rattle.draw.specs.Paths.{drawPath}
-use Rattle.draw.specs.Items.{itemRow, isDrawable, isPath, isBare, entriesOf, itemShape, drawSource, drawItem}
+use Rattle.draw.specs.Items.{isDrawable, isBare, entriesOf, itemShape, drawSource, drawItem}
 
 -- the commands of an outcome are within the limit
 abbrev pub SoundOutcome : Outcome → Type 0

@@ -23,12 +23,13 @@ use Rattle.rect.specs.Rect.{rectCorners}
 use Rattle.shape.specs.declared.Shape.{Shape}
 use Rattle.shape.specs.declared.Shape.the-variants.{Path, Rect}
 use Rattle.shape.specs.Shape.{shapeCommands, Fit}
-use Rattle.draw.specs.declared.ItemRow.{ItemRow}
+use Rattle.item.specs.declared.ItemRow.{ItemRow}
+use Rattle.item.specs.Rows.{itemRow, isPath, isListed}
 use Rattle.draw.specs.declared.Checked.{Checked}
 use Rattle.draw.specs.declared.Checked.the-variants.{Fault, Sound}
 use Rattle.draw.specs.Checks.{coordinateLimit, outcomeOf, Ready}
 use Rattle.draw.specs.Paths.{drawPath}
-use Rattle.draw.specs.Items.{itemRow, isDrawable, isPath, isBare, entriesOf, itemShape, drawSource, drawItem}
+use Rattle.draw.specs.Items.{isDrawable, isBare, entriesOf, itemShape, drawSource, drawItem}
 
 -- ---- check_path
 module _ (closed : ℕ) (v : List Float) (count : ℕ) where
@@ -71,38 +72,16 @@ taken v n h = sym (length-take-le n v h)
 pub ruleset paths = (taken, path-empty, path-many, path-unlisted, path-outside, path-sound, path-ready, path-beyond)
 
 -- ---- is_drawable
-module _ (row : ItemRow) where
-  pub hidden-unlisted : 1 < row .hidden → false ≡ isDrawable row
+module _ (row : ItemRow) (t : Bool) (is : t ≡ isListed row) where
+  pub listed-kind : t ≡ true → leb (row .kind) 4 ≡ isDrawable row
   unfolding isDrawable
-  hidden-unlisted h = rw (lt-leb (row .hidden) 1 h)
+  listed-kind h = rw (← is, h)
 
-  module _ (h : row .hidden ≤ 1) where
-    pub path-mark : row .kind ≡ 1 → leb (row .mark) 1 ≡ isDrawable row
-    unfolding isDrawable
-    path-mark a = rw (le-leb (row .hidden) 1 h, eq-eqb (row .kind) 1 a)
+  pub not-listed : t ≡ false → false ≡ isDrawable row
+  unfolding isDrawable
+  not-listed h = rw (← is, h)
 
-    module _ (a : row .kind ≡ 1 → ⊥) where
-      pub kind-none : row .kind < 2 → false ≡ isDrawable row
-      unfolding isDrawable
-      kind-none b = rw (le-leb (row .hidden) 1 h, ne-eqb (row .kind) 1 a, lt-leb 2 (row .kind) b)
-
-      module _ (b : 2 ≤ row .kind) where
-        pub kind-later : 4 < row .kind → false ≡ isDrawable row
-        unfolding isDrawable
-        kind-later c = rw (le-leb (row .hidden) 1 h, ne-eqb (row .kind) 1 a, le-leb 2 (row .kind) b, lt-leb (row .kind) 4 c)
-
-        module _ (c : row .kind ≤ 4) where
-          pub mark-unlisted : (row .mark ≡ 0 → ⊥) → false ≡ isDrawable row
-          unfolding isDrawable
-          mark-unlisted d =
-              rw (le-leb (row .hidden) 1 h, ne-eqb (row .kind) 1 a, le-leb 2 (row .kind) b, le-leb (row .kind) 4 c, ne-eqb (row .mark) 0 d)
-
-          pub count-none : row .mark ≡ 0 → eqb (row .count) 0 ≡ isDrawable row
-          unfolding isDrawable
-          count-none d =
-              rw (le-leb (row .hidden) 1 h, ne-eqb (row .kind) 1 a, le-leb 2 (row .kind) b, le-leb (row .kind) 4 c, eq-eqb (row .mark) 0 d)
-
-pub ruleset rows = (hidden-unlisted, path-mark, kind-none, kind-later, mark-unlisted, count-none)
+pub ruleset rows = (listed-kind, not-listed)
 
 -- ---- is_bare, entries_of and shape_of
 module _ (row : ItemRow) where

@@ -12,30 +12,14 @@ use Rattle.rect.specs.Rect.{rectCorners}
 use Rattle.shape.specs.declared.Shape.{Shape}
 use Rattle.shape.specs.declared.Shape.the-variants.{Path, Rect}
 use Rattle.shape.specs.Shape.{shapeCommands}
-use Rattle.draw.specs.declared.ItemRow.{ItemRow}
+use Rattle.item.specs.declared.ItemRow.{ItemRow}
+use Rattle.item.specs.Rows.{itemRow, isPath, isListed}
 use Rattle.draw.specs.Checks.{coordinateLimit}
 
--- the six entries of the row at place r: kind, hidden, depth, mark, place, count
-abbrev pub itemRow : List ℕ → ℕ → ItemRow
-itemRow rows r = record {
-  kind = getD rows (6 * r) 0;
-  hidden = getD rows (6 * r + 1) 0;
-  depth = getD rows (6 * r + 2) 0;
-  mark = getD rows (6 * r + 3) 0;
-  place = getD rows (6 * r + 4) 0;
-  count = getD rows (6 * r + 5) 0;
-}
-
--- the kinds that can be asked to be drawn: sh 1, rc 2, el 3, sr 4
-abbrev pub isPath : ItemRow → Bool
-isPath row = eqb (row .kind) 1
-
-abbrev pub isOther : ItemRow → Bool
-isOther row = leb 2 (row .kind) && leb (row .kind) 4
-
--- A path has a closed flag and a count; the others have neither. The depth is not read.
+-- A row that can be asked to be drawn: listed, of the kinds sh 1, rc 2, el 3, sr 4. The depth is not read.
 unfoldable pub isDrawable : ItemRow → Bool
-isDrawable row = leb (row .hidden) 1 && cond (isPath row) (leb (row .mark) 1) (isOther row && eqb (row .mark) 0 && eqb (row .count) 0)
+unfolding isListed
+isDrawable row = isListed row && leb (row .kind) 4
 
 -- a path without vertices
 abbrev pub isBare : ItemRow → Bool

@@ -1,27 +1,15 @@
 // The calls that draw a vertex list or one item row: the checks in document 01's order, then the writing.
 use command::Drawn;
 use command::Refusal;
+use item::ItemRow;
 use shape::Shape;
 ghost use mathlib.Core.Path.{_≡_};
-ghost use Prim.Native.Nat.{_+_, _*_, _≤_};
+ghost use Prim.Native.Nat.{_+_, _≤_};
 ghost use lib.ListN.{length, drop};
 ghost use Rattle.command.specs.Outcomes.{Filled, Outcome, fitted, drawnNumber, drawnCodes, drawnNumbers};
 ghost use Rattle.draw.specs.Checks.{outcomeOf, Ready};
 ghost use Rattle.draw.specs.Paths.{drawPath};
-ghost use Rattle.draw.specs.Items.{itemRow, isDrawable, isBare, entriesOf, itemShape, drawSource, drawItem};
-
-// One row of an item list.
-pub struct ItemRow {
-    pub kind: u32,
-    pub hidden: u32,
-    pub depth: u32,
-    // The closed flag of a path.
-    pub mark: u32,
-    // Where its numbers start.
-    pub place: usize,
-    // How many vertices.
-    pub count: usize,
-}
+ghost use Rattle.draw.specs.Items.{isDrawable, isBare, entriesOf, itemShape, drawSource, drawItem};
 
 // What the checks find: the first refusal, or a shape and the place where its numbers start.
 pub enum Checked {
@@ -53,42 +41,15 @@ fn check_path(closed: u32, vertices: &[f32], count: usize) -> Checked
     }
 }
 
-// The row at a place of a list of rows.
-fn item_row(rows: &[u32], r: usize) -> ItemRow
-    requires { ⌜ 6 * r + 6 ≤ length (now rows) ⌝ }
-    ensures { λ row. ⌜ row ≡ itemRow (now (rows .entry)) r ⌝ }
-{
-    let i = 6 * r;
-    ItemRow {
-        kind: rows[i],
-        hidden: rows[i + 1],
-        depth: rows[i + 2],
-        mark: rows[i + 3],
-        place: rows[i + 4] as usize,
-        count: rows[i + 5] as usize,
-    }
-}
-
-// Whether a row that is to be drawn has only listed entries.
+// Whether a row that is to be drawn has only listed entries, its kind being one that can be drawn.
 fn is_drawable(row: ItemRow) -> bool
     ensures { λ r. ⌜ r ≡ isDrawable row ⌝ }
 {
-    if row.hidden > 1 {
-        return false;
+    if item::is_listed(row) {
+        row.kind <= 4
+    } else {
+        false
     }
-    if row.kind == 1 {
-        return row.mark <= 1;
-    }
-    if row.kind < 2 {
-        return false;
-    }
-    if row.kind > 4 {
-        return false;
-    }
-    if row.mark != 0 {
-        return false;
-    }
-    row.count == 0
 }
 
 // Whether a row is a path without vertices.
@@ -107,7 +68,7 @@ fn entries_of(row: ItemRow) -> usize
 }
 
 // What a path's or a rectangle's row says is to be drawn.
-fn shape_of(row: ItemRow, items: &[f32]) -> Shape
+pub fn shape_of(row: ItemRow, items: &[f32]) -> Shape
     requires { ⌜ row .place + entriesOf row ≤ length (now items) ⌝ }
     ensures { λ r. ⌜ r ≡ itemShape row (drop (row .place) (now (items .entry))) ⌝ }
 {
@@ -125,7 +86,7 @@ fn shape_of(row: ItemRow, items: &[f32]) -> Shape
 }
 
 // The checks of a row with listed entries, all but that of the buffers.
-fn check_source(row: ItemRow, items: &[f32]) -> Checked
+pub fn check_source(row: ItemRow, items: &[f32]) -> Checked
     ensures { λ r. ⌜ (outcomeOf r (now (items .entry)) ≡ drawSource row (now (items .entry))) × Ready r (now (items .entry)) ⌝ }
 {
     if row.kind > 2 {
@@ -159,9 +120,9 @@ fn check_item(row: &[u32], items: &[f32]) -> Checked
     if row.len() < 6 {
         return Checked::Fault(Refusal::OutOfBounds);
     }
-    let item = item_row(row, 0);
-    if is_drawable(item) {
-        check_source(item, items)
+    let first = item::item_row(row, 0);
+    if is_drawable(first) {
+        check_source(first, items)
     } else {
         Checked::Fault(Refusal::Unlisted)
     }

@@ -1,9 +1,9 @@
--- `draw::item_row` meets its contract. Assumes nothing.
+-- `item::item_row` meets its contract. Assumes nothing.
 use Prim.Native.Nat.{_+_, _*_}
 use native.Mathlib.Omega.{arith}
 use borrow.Author.Needs.{needs}
-use Rattle.draw.proofs.item_row.Statement.{statement}
-use Rattle.draw.proofs.item_row.Tie as tie
+use Rattle.item.proofs.item_row.Statement.{statement}
+use Rattle.item.proofs.item_row.Tie as tie
 
 mul-i : tie.Need-mul-i
 mul-i c = search needs

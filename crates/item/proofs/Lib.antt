@@ -1,0 +1,2 @@
+-- What the proofs of `item` cite.
+pub mod Ways

@@ -1,0 +1,2 @@
+-- Item rows and their rules.
+pub mod Rows

@@ -1,0 +1,56 @@
+-- Item rows: six numbers each, lent as one list. The rules of document 01 for a row by itself. Definitions only.
+use Prim.Native.Nat.{ℕ, _+_, _*_}
+use mathlib.Core.Bool.{Bool, cond, _&&_, _||_}
+use mathlib.Core.List.{List}
+use lib.Dec.{eqb, leb}
+use lib.ListN.{getD}
+use Rattle.item.specs.declared.ItemRow.{ItemRow}
+
+-- the six entries of the row at place r: kind, hidden, depth, mark, place, count
+abbrev pub itemRow : List ℕ → ℕ → ItemRow
+itemRow rows r = record {
+  kind = getD rows (6 * r) 0;
+  hidden = getD rows (6 * r + 1) 0;
+  depth = getD rows (6 * r + 2) 0;
+  mark = getD rows (6 * r + 3) 0;
+  place = getD rows (6 * r + 4) 0;
+  count = getD rows (6 * r + 5) 0;
+}
+
+-- ---- kinds 1 to 14: sh, rc, el, sr, gr, tr, fl, st, gf, gs, tm, rp, mm, other
+
+abbrev pub isPath : ItemRow → Bool
+isPath row = eqb (row .kind) 1
+
+-- what can be drawn: sh, rc, el, sr
+abbrev pub isSource : ItemRow → Bool
+isSource row = leb 1 (row .kind) && leb (row .kind) 4
+
+abbrev pub isGroup : ItemRow → Bool
+isGroup row = eqb (row .kind) 5
+
+abbrev pub isTransform : ItemRow → Bool
+isTransform row = eqb (row .kind) 6
+
+-- what colours or alters a drawing: fl, st, gf, gs, tm, rp
+abbrev pub isStyle : ItemRow → Bool
+isStyle row = leb 7 (row .kind) && leb (row .kind) 12
+
+abbrev pub isMerge : ItemRow → Bool
+isMerge row = eqb (row .kind) 13
+
+abbrev pub isVisible : ItemRow → Bool
+isVisible row = eqb (row .hidden) 0
+
+-- ---- the rules
+
+-- the largest mark of a kind: a closed flag for sh, a mode for mm, else 0
+unfoldable pub markLimit : ℕ → ℕ
+markLimit kind = cond (eqb kind 1) 1 (cond (eqb kind 13) 255 0)
+
+-- A row with listed entries. The count is the vertex number of an sh, else 0; the place may be any.
+unfoldable pub isListed : ItemRow → Bool
+unfolding markLimit
+isListed row =
+    leb 1 (row .kind) && leb (row .kind) 14 && leb (row .hidden) 1 && leb (row .mark) (markLimit (row .kind))
+    && (isPath row || eqb (row .count) 0)
