@@ -1,3 +1,4 @@
 -- What the proofs of `draw` cite.
 pub mod Ways
+pub mod Sources
 pub mod Sound

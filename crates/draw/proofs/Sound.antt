@@ -2,16 +2,15 @@
 use mathlib.Core.Path.{_≡_, refl, subst}
 use mathlib.Core.Bool.{Bool, true, false, not, cond}
 use mathlib.Core.List.{List, []}
-use Prim.Native.Nat.{ℕ, _+_, _-_, _*_, _^_, _≤_, _<_}
-use native.Mathlib.Omega.{arith}
+use Prim.Native.Nat.{ℕ, _*_, _^_, _≤_, _<_}
 use lib.Dec.{T, eqb, ltb, nltb→le, lit<}
 use lib.Ieee.{Float, nan, ofBits}
 use lib.Ieee.Exact.{HasValue}
-use lib.ListN.{length, getD, take, drop, length-drop}
+use lib.ListN.{length, getD, take, drop}
 use Rattle.ieee.specs.Limit.{allWithin, Bounded}
 use Rattle.ieee.proofs.Bounds.{all-within→bounded, all-bounded-at}
 use Rattle.command.specs.declared.PathCommand.{PathCommand}
-use Rattle.command.specs.declared.Refusal.the-variants.{Empty, TooMany, OutOfRange, Unlisted, Unsupported, OutOfBounds}
+use Rattle.command.specs.declared.Refusal.the-variants.{Empty, TooMany, OutOfRange, Unlisted, OutOfBounds}
 use Rattle.command.specs.Commands.{numbersOf}
 use Rattle.command.specs.Outcomes.{Outcome, refused, drawn, commandsOf}
 use Rattle.command.specs.Enlarged.{commandLimit}
@@ -25,7 +24,8 @@ use Rattle.item.specs.declared.ItemRow.{ItemRow}
 use Rattle.item.specs.Rows.{itemRow, isPath}
 use Rattle.draw.specs.Checks.{coordinateLimit}
 use Rattle.draw.specs.Paths.{drawPath}
-use Rattle.draw.specs.Items.{isDrawable, isBare, entriesOf, itemShape, drawSource, drawItem}
+use Rattle.draw.specs.Items.{isDrawable, entriesOf, itemShape, drawSource, drawItem}
+use Rattle.draw.proofs.Sources.{entries-dropped, drawn-source}
 
 -- the commands of an outcome are within the limit
 abbrev pub SoundOutcome : Outcome → Type 0
@@ -73,23 +73,14 @@ shape-sound row v w h = go (isPath row) w h
     go true w h = path-sound (row .mark) (row .count) v w h
     go false w h = rect-list-sound v w h
 
-source-sound : (row : ItemRow) (items : List Float) → SoundOutcome (drawSource row items)
-unfolding drawSource
-source-sound row items =
-    go (ltb 2 (row .kind)) (isBare row) (ltb 1024 (row .count)) (ltb (length items) (row .place + entriesOf row)) (allWithin coordinateLimit (take (entriesOf row) (drop (row .place) items)))
-    (λ h. room (length items) (row .place) (entriesOf row) (length (drop (row .place) items)) (length-drop (row .place) items) (nltb→le (length items) (row .place + entriesOf row) h)) refl
+pub source-sound : (row : ItemRow) (items : List Float) → SoundOutcome (drawSource row items)
+source-sound row items = go (drawSource row items) refl
   where
-    room : (n place entries m : ℕ) → m ≡ n - place → place + entries ≤ n → entries ≤ m
-    room n place entries m e h = omega arith
-
-    go : (a b c d e : Bool) → (T (not d) → entriesOf row ≤ length (drop (row .place) items)) → allWithin coordinateLimit (take (entriesOf row) (drop (row .place) items)) ≡ e
-        → SoundOutcome (cond a (refused Unsupported) (cond b (refused Empty) (cond c (refused TooMany) (cond d (refused OutOfBounds) (cond e (drawn (shapeCommands (itemShape row (drop (row .place) items)) (drop (row .place) items))) (refused OutOfRange))))))
-    go true b c d e h w = refusal-sound
-    go false true c d e h w = refusal-sound
-    go false false true d e h w = refusal-sound
-    go false false false true e h w = refusal-sound
-    go false false false false true h w = shape-sound row (drop (row .place) items) w (h tt)
-    go false false false false false h w = refusal-sound
+    go : (o : Outcome) → drawSource row items ≡ o → SoundOutcome o
+    go (refused r) e = refusal-sound
+    go (drawn cs) e =
+        let s = drawn-source row items cs e in
+        rw (s .commands) (shape-sound row (drop (row .place) items) (s .numbers-within) (entries-dropped row items (s .inside)))
 
 pub draw-item-sound : (row : List ℕ) (items : List Float) → SoundOutcome (drawItem row items)
 unfolding drawItem

@@ -129,7 +129,7 @@ module _ (row : ItemRow) where
 pub ruleset shapes = (bare-path, bare-other, entries-path, entries-rect, shape-path, five-inside, first-inside, shape-rect)
 
 -- ---- check_source
-item-fits : (row : ItemRow) (v : List Float) → isBare row ≡ false → row .count ≤ 1024 → entriesOf row ≤ length v → Fit (itemShape row v) v
+pub item-fits : (row : ItemRow) (v : List Float) → isBare row ≡ false → row .count ≤ 1024 → entriesOf row ≤ length v → Fit (itemShape row v) v
 unfolding itemShape
 item-fits row v = go (isPath row)
   where
