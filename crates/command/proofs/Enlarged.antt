@@ -1,11 +1,11 @@
--- Laws of enlarged command lists: the codes stay, the numbers are multiplied, and all are within the limit; and how such lists are built. Assumes nothing.
+-- Laws of enlarged command lists: the codes stay, the numbers are multiplied, and all are within the limit; and how such lists are built, and outcomes that hold them. Assumes nothing.
 use mathlib.Core.Path.{_≡_, refl, sym, ap, ap₂, _∙_, subst}
-use mathlib.Core.Bool.{Bool, true, false, cond}
+use mathlib.Core.Bool.{Bool, true, false, cond, _&&_}
 use mathlib.Core.List.{List, [], _∷_, _++_, map, map-append}
 use Prim.Native.Nat.{ℕ, zero, suc, _+_, _≤_, _<_}
 use native.Mathlib.Nat.{not-suc-le-zero, le-of-suc-le-suc, zero-lt-suc, le-refl}
 use native.Mathlib.Omega.{arith}
-use lib.Dec.{lit≤}
+use lib.Dec.{leb, lit≤}
 use lib.ListN.{length, getD, take, length-map, List·getD-map}
 use lib.Ieee.{Float, nan, ofBits}
 use lib.Ieee.Bits.{is-true}
@@ -16,9 +16,12 @@ use Rattle.ieee.proofs.Grid.{weaken, scale-on}
 use Rattle.ieee.proofs.Limits as Limits
 use Rattle.command.specs.declared.PathCommand.{PathCommand}
 use Rattle.command.specs.declared.PathCommand.the-variants.{Move, Line, Cubic, Close, Quad}
+use Rattle.command.specs.declared.Refusal.{Refusal}
+use Rattle.command.specs.declared.Refusal.the-variants.{BufferTooSmall}
 use Rattle.command.specs.Commands.{codeOf, coordinatesOf, codesOf, numbersOf}
+use Rattle.command.specs.Outcomes.{Outcome, refused, drawn, commandsOf, fitted}
+use Rattle.command.specs.Enlarged.{enlarged, AllOn, CommandTwin, Twins, enlargedOutcome, OutcomeTwin, commandLimit}
 use Rattle.command.proofs.Passes.{numbers-append}
-use Rattle.command.specs.Enlarged.{enlarged, AllOn, CommandTwin, Twins, commandLimit}
 
 -- ---- numbers on a grid
 pub all-append : (q b : ℕ) (xs ys : List Float) → AllOn q b xs → AllOn q b ys → AllOn q b (xs ++ ys)
@@ -174,3 +177,41 @@ twins-take {k} {q} {b} {cs} {cs'} n t = subst (λ (ds : List PathCommand). Twins
     go (suc n) (c ∷ cs) A =
         let s = all-split q b (coordinatesOf c) (numbersOf cs) A in
         twins-cons (record { command = refl; grid = s .0 }) (go n cs (s .1))
+
+-- ---- outcomes
+module _ {k q b : ℕ} where
+  pub outcome-refused : (r : Refusal) → OutcomeTwin k q b (refused r) (refused r)
+  outcome-refused r = record { outcome = refl; grid = tt }
+
+  pub outcome-drawn : {cs cs' : List PathCommand} → Twins k q b cs cs' → OutcomeTwin k q b (drawn cs) (drawn cs')
+  outcome-drawn t = record { outcome = ap drawn (t .commands); grid = t .grid }
+
+  -- the commands of both, none of a refusal
+  pub outcome-twins : {o o' : Outcome} → OutcomeTwin k q b o o' → Twins k q b (commandsOf o) (commandsOf o')
+  outcome-twins {o} t = record { commands = ap commandsOf (t .outcome) ∙ go o; grid = t .grid }
+    where
+      go : (o : Outcome) → commandsOf (enlargedOutcome k o) ≡ map (enlarged k) (commandsOf o)
+      go (refused r) = refl
+      go (drawn cs) = refl
+
+  -- one of two, by a test that is the same
+  pub outcome-choice : {t t' : Bool} {o o' p p' : Outcome} → t' ≡ t → OutcomeTwin k q b o o' → OutcomeTwin k q b p p' → OutcomeTwin k q b (cond t o p) (cond t' o' p')
+  outcome-choice {t = t} {o = o} {o' = o'} {p = p} {p' = p'} e O P = subst (λ (z : Bool). OutcomeTwin k q b (cond t o p) (cond z o' p')) (sym e) (go t)
+    where
+      go : (t : Bool) → OutcomeTwin k q b (cond t o p) (cond t o' p')
+      go true = O
+      go false = P
+
+  -- the last check: the codes and the numbers are as many
+  pub outcome-fitted : (codes numbers : ℕ) {o o' : Outcome} → OutcomeTwin k q b o o' → OutcomeTwin k q b (fitted codes numbers o) (fitted codes numbers o')
+  unfolding fitted
+  outcome-fitted codes numbers {o} {o'} t = subst (λ (p : Outcome). OutcomeTwin k q b (fitted codes numbers o) (fitted codes numbers p)) (sym (t .outcome)) (go o (t .grid))
+    where
+      go : (o : Outcome) → AllOn q b (numbersOf (commandsOf o)) → OutcomeTwin k q b (fitted codes numbers o) (fitted codes numbers (enlargedOutcome k o))
+      go (refused r) A = outcome-refused r
+      go (drawn cs) A =
+          let C : Twins k q b cs (map (enlarged k) cs) = record { commands = refl; grid = A } in
+          outcome-choice (λ i. leb (twins-codes-length C i) codes && leb (twins-numbers-length C i) numbers) (outcome-drawn C) (outcome-refused BufferTooSmall)
+
+pub outcome-weaken : (k q b q' b' : ℕ) (o o' : Outcome) → q ≤ q' → b ≤ b' → OutcomeTwin k q b o o' → OutcomeTwin k q' b' o o'
+outcome-weaken k q b q' b' o o' Q B t = record { outcome = t .outcome; grid = all-weaken q b q' b' (numbersOf (commandsOf o)) Q B (t .grid) }

@@ -1,4 +1,4 @@
--- Commands whose every number is multiplied by a power of two, and the limit of a command list's numbers. Definitions only.
+-- Commands and outcomes whose every number is multiplied by a power of two, and the limit of a command list's numbers. Definitions only.
 use Prim.Native.Nat.{ℕ}
 use mathlib.Core.Path.{_≡_}
 use mathlib.Core.List.{List, [], _∷_, map}
@@ -7,6 +7,7 @@ use Rattle.ieee.specs.Grid.{scale, On}
 use Rattle.command.specs.declared.PathCommand.{PathCommand}
 use Rattle.command.specs.declared.PathCommand.the-variants.{Move, Line, Cubic, Close, Quad}
 use Rattle.command.specs.Commands.{coordinatesOf, numbersOf}
+use Rattle.command.specs.Outcomes.{Outcome, refused, drawn, commandsOf}
 
 -- the command with every number times 2 ^ k, exactly
 abbrev pub enlarged : ℕ → PathCommand → PathCommand
@@ -30,6 +31,16 @@ pub record CommandTwin (k q b : ℕ) (c c' : PathCommand) : Type 0 where
 pub record Twins (k q b : ℕ) (cs cs' : List PathCommand) : Type 0 where
   pub commands : cs' ≡ map (enlarged k) cs
   pub grid : AllOn q b (numbersOf cs)
+
+-- an outcome with every number of its commands times 2 ^ k, exactly: a refusal stays what it is
+abbrev pub enlargedOutcome : ℕ → Outcome → Outcome
+enlargedOutcome k (refused r) = refused r
+enlargedOutcome k (drawn cs) = drawn (map (enlarged k) cs)
+
+-- o' is o with every number times 2 ^ k, and the numbers of o are on the grid
+pub record OutcomeTwin (k q b : ℕ) (o o' : Outcome) : Type 0 where
+  pub outcome : o' ≡ enlargedOutcome k o
+  pub grid : AllOn q b (numbersOf (commandsOf o))
 
 -- 4,194,304, which is 2 ^ 22: no number of a command list is larger
 abbrev pub commandLimit : Float
