@@ -2,3 +2,4 @@
 pub mod Ways
 pub mod Sources
 pub mod Sound
+pub mod Enlarged

@@ -53,7 +53,7 @@ pub drawn-path-sound : (closed : ℕ) (v : List Float) (count : ℕ) (cs : List 
 drawn-path-sound closed v count cs e = subst SoundOutcome e (draw-path-sound closed v count)
 
 -- ---- an item row
-limit-value : HasValue coordinateLimit false (2 ^ 20) 1
+pub limit-value : HasValue coordinateLimit false (2 ^ 20) 1
 unfolding ofBits
 limit-value = (refl, refl)
 
