@@ -1,1 +1,3 @@
--- What the proofs of `nest` cite.
+-- What the proofs of `nest` cite, and what callers may.
+pub mod Rows
+pub mod Ways

@@ -1,0 +1,303 @@
+-- `nest::children_empty` and `nest::group_empty`, which call each other, meet their contracts. The measure falls with the rows that are left, and from a child list to a group of it.
+-- Assumes nothing.
+use Prim.Native.Nat.{ℕ, _+_, _*_, _<_}
+use borrow.Author.Needs.{needs}
+use Rattle.nest.proofs.Ways.{children, groups}
+use borrow.Fn.Kinds.{In}
+use borrow.Fn.PlainCycle.{Measures, is, falls, and}
+use Rattle.nest.proofs.children_empty.Reads as children-empty
+use Rattle.nest.proofs.children_empty.Kinds as children-empty-kinds
+use Rattle.nest.proofs.+children_empty+group_empty.Lts-children_empty as children-empty-lts
+use Rattle.nest.proofs.group_empty.Reads as group-empty
+use Rattle.nest.proofs.group_empty.Kinds as group-empty-kinds
+use Rattle.nest.proofs.+children_empty+group_empty.Lts-group_empty as group-empty-lts
+use Rattle.item.proofs.item_row.Reads as item-row-reads
+use Rattle.nest.proofs.is_plain_child.Reads as is-plain-child-reads
+use Rattle.nest.proofs.+children_empty+group_empty.{statement}
+use Rattle.nest.proofs.+children_empty+group_empty.Tie.{close}
+
+abbrev μ-children-empty : Measures 1 children-empty-kinds.ps ℕ
+μ-children-empty κs a = 2 * a .1 .1 .0 + 1
+
+abbrev μ-group-empty : Measures 1 group-empty-kinds.ps ℕ
+μ-group-empty κs a = 2 * a .1 .1 .0
+
+abbrev children-empty-at : ℕ → In 1 children-empty-kinds.ps
+children-empty-at t =
+    and
+    1
+    children-empty-kinds.ps
+    (is 1 children-empty-kinds.ps μ-children-empty t)
+    children-empty.Pre
+
+abbrev children-empty-below : ℕ → In 1 children-empty-kinds.ps
+children-empty-below t =
+    and
+    1
+    children-empty-kinds.ps
+    (falls 1 children-empty-kinds.ps _<_ μ-children-empty t)
+    children-empty.Pre
+
+abbrev group-empty-at : ℕ → In 1 group-empty-kinds.ps
+group-empty-at t =
+    and 1 group-empty-kinds.ps (is 1 group-empty-kinds.ps μ-group-empty t) group-empty.Pre
+
+abbrev group-empty-below : ℕ → In 1 group-empty-kinds.ps
+group-empty-below t =
+    and 1 group-empty-kinds.ps (falls 1 group-empty-kinds.ps _<_ μ-group-empty t) group-empty.Pre
+
+children-empty-returns : (t : ℕ) → children-empty-lts.Need-returns (
+  item-row-reads.Asked,
+  item-row-reads.Learnt,
+  is-plain-child-reads.Asked,
+  is-plain-child-reads.Learnt,
+  group-empty-below t,
+  group-empty.Post,
+  children-empty-below t,
+  children-empty.Post,
+) (children-empty-at t) children-empty.Post
+children-empty-returns t c = search (needs, children)
+
+children-empty-item-row-requires : (t : ℕ) → children-empty-lts.Need-item-row-requires (
+  item-row-reads.Asked,
+  item-row-reads.Learnt,
+  is-plain-child-reads.Asked,
+  is-plain-child-reads.Learnt,
+  group-empty-below t,
+  group-empty.Post,
+  children-empty-below t,
+  children-empty.Post,
+) (children-empty-at t) children-empty.Post
+children-empty-item-row-requires t c κs = search (needs, children)
+
+children-empty-returns-2 : (t : ℕ) → children-empty-lts.Need-returns-2 (
+  item-row-reads.Asked,
+  item-row-reads.Learnt,
+  is-plain-child-reads.Asked,
+  is-plain-child-reads.Learnt,
+  group-empty-below t,
+  group-empty.Post,
+  children-empty-below t,
+  children-empty.Post,
+) (children-empty-at t) children-empty.Post
+children-empty-returns-2 t c = search (needs, children)
+
+children-empty-is-plain-child-requires : (t : ℕ) → children-empty-lts.Need-is-plain-child-requires (
+  item-row-reads.Asked,
+  item-row-reads.Learnt,
+  is-plain-child-reads.Asked,
+  is-plain-child-reads.Learnt,
+  group-empty-below t,
+  group-empty.Post,
+  children-empty-below t,
+  children-empty.Post,
+) (children-empty-at t) children-empty.Post
+children-empty-is-plain-child-requires t c κs = search (needs, children)
+
+children-empty-group-empty-requires : (t : ℕ) → children-empty-lts.Need-group-empty-requires (
+  item-row-reads.Asked,
+  item-row-reads.Learnt,
+  is-plain-child-reads.Asked,
+  is-plain-child-reads.Learnt,
+  group-empty-below t,
+  group-empty.Post,
+  children-empty-below t,
+  children-empty.Post,
+) (children-empty-at t) children-empty.Post
+children-empty-group-empty-requires t c κs = search (needs, children)
+
+children-empty-add-children-empty : (t : ℕ) → children-empty-lts.Need-add-children-empty (
+  item-row-reads.Asked,
+  item-row-reads.Learnt,
+  is-plain-child-reads.Asked,
+  is-plain-child-reads.Learnt,
+  group-empty-below t,
+  group-empty.Post,
+  children-empty-below t,
+  children-empty.Post,
+) (children-empty-at t) children-empty.Post
+children-empty-add-children-empty t c = search (needs, children)
+
+children-empty-sub-children-empty : (t : ℕ) → children-empty-lts.Need-sub-children-empty (
+  item-row-reads.Asked,
+  item-row-reads.Learnt,
+  is-plain-child-reads.Asked,
+  is-plain-child-reads.Learnt,
+  group-empty-below t,
+  group-empty.Post,
+  children-empty-below t,
+  children-empty.Post,
+) (children-empty-at t) children-empty.Post
+children-empty-sub-children-empty t c = search (needs, children)
+
+children-empty-children-empty-requires : (t : ℕ) → children-empty-lts.Need-children-empty-requires (
+  item-row-reads.Asked,
+  item-row-reads.Learnt,
+  is-plain-child-reads.Asked,
+  is-plain-child-reads.Learnt,
+  group-empty-below t,
+  group-empty.Post,
+  children-empty-below t,
+  children-empty.Post,
+) (children-empty-at t) children-empty.Post
+children-empty-children-empty-requires t c κs = search (needs, children)
+
+children-empty-add-children-empty-2 : (t : ℕ) → children-empty-lts.Need-add-children-empty-2 (
+  item-row-reads.Asked,
+  item-row-reads.Learnt,
+  is-plain-child-reads.Asked,
+  is-plain-child-reads.Learnt,
+  group-empty-below t,
+  group-empty.Post,
+  children-empty-below t,
+  children-empty.Post,
+) (children-empty-at t) children-empty.Post
+children-empty-add-children-empty-2 t c = search (needs, children)
+
+children-empty-sub-children-empty-2 : (t : ℕ) → children-empty-lts.Need-sub-children-empty-2 (
+  item-row-reads.Asked,
+  item-row-reads.Learnt,
+  is-plain-child-reads.Asked,
+  is-plain-child-reads.Learnt,
+  group-empty-below t,
+  group-empty.Post,
+  children-empty-below t,
+  children-empty.Post,
+) (children-empty-at t) children-empty.Post
+children-empty-sub-children-empty-2 t c = search (needs, children)
+
+children-empty-children-empty-requires-2 :
+    (t : ℕ) → children-empty-lts.Need-children-empty-requires-2 (
+      item-row-reads.Asked,
+      item-row-reads.Learnt,
+      is-plain-child-reads.Asked,
+      is-plain-child-reads.Learnt,
+      group-empty-below t,
+      group-empty.Post,
+      children-empty-below t,
+      children-empty.Post,
+    ) (children-empty-at t) children-empty.Post
+children-empty-children-empty-requires-2 t c κs = search (needs, children)
+
+children-empty-returns-3 : (t : ℕ) → children-empty-lts.Need-returns-3 (
+  item-row-reads.Asked,
+  item-row-reads.Learnt,
+  is-plain-child-reads.Asked,
+  is-plain-child-reads.Learnt,
+  group-empty-below t,
+  group-empty.Post,
+  children-empty-below t,
+  children-empty.Post,
+) (children-empty-at t) children-empty.Post
+children-empty-returns-3 t c = search (needs, children)
+
+children-empty-returns-4 : (t : ℕ) → children-empty-lts.Need-returns-4 (
+  item-row-reads.Asked,
+  item-row-reads.Learnt,
+  is-plain-child-reads.Asked,
+  is-plain-child-reads.Learnt,
+  group-empty-below t,
+  group-empty.Post,
+  children-empty-below t,
+  children-empty.Post,
+) (children-empty-at t) children-empty.Post
+children-empty-returns-4 t c = search (needs, children)
+
+children-empty-returns-5 : (t : ℕ) → children-empty-lts.Need-returns-5 (
+  item-row-reads.Asked,
+  item-row-reads.Learnt,
+  is-plain-child-reads.Asked,
+  is-plain-child-reads.Learnt,
+  group-empty-below t,
+  group-empty.Post,
+  children-empty-below t,
+  children-empty.Post,
+) (children-empty-at t) children-empty.Post
+children-empty-returns-5 t c = search (needs, children)
+
+group-empty-item-row-requires : (t : ℕ) → group-empty-lts.Need-item-row-requires (
+  item-row-reads.Asked,
+  item-row-reads.Learnt,
+  children-empty-below t,
+  children-empty.Post,
+) (group-empty-at t) group-empty.Post
+group-empty-item-row-requires t c κs = search (needs, groups)
+
+group-empty-add-children-empty : (t : ℕ) → group-empty-lts.Need-add-children-empty (
+  item-row-reads.Asked,
+  item-row-reads.Learnt,
+  children-empty-below t,
+  children-empty.Post,
+) (group-empty-at t) group-empty.Post
+group-empty-add-children-empty t c = search (needs, groups)
+
+group-empty-sub-children-empty : (t : ℕ) → group-empty-lts.Need-sub-children-empty (
+  item-row-reads.Asked,
+  item-row-reads.Learnt,
+  children-empty-below t,
+  children-empty.Post,
+) (group-empty-at t) group-empty.Post
+group-empty-sub-children-empty t c = search (needs, groups)
+
+group-empty-children-empty-requires : (t : ℕ) → group-empty-lts.Need-children-empty-requires (
+  item-row-reads.Asked,
+  item-row-reads.Learnt,
+  children-empty-below t,
+  children-empty.Post,
+) (group-empty-at t) group-empty.Post
+group-empty-children-empty-requires t c κs = search (needs, groups)
+
+group-empty-returns : (t : ℕ) → group-empty-lts.Need-returns (
+  item-row-reads.Asked,
+  item-row-reads.Learnt,
+  children-empty-below t,
+  children-empty.Post,
+) (group-empty-at t) group-empty.Post
+group-empty-returns t c = search (needs, groups)
+
+group-empty-returns-2 : (t : ℕ) → group-empty-lts.Need-returns-2 (
+  item-row-reads.Asked,
+  item-row-reads.Learnt,
+  children-empty-below t,
+  children-empty.Post,
+) (group-empty-at t) group-empty.Post
+group-empty-returns-2 t c = search (needs, groups)
+
+pub +children-empty+group-empty-spec : {M : Type 1} → statement M
++children-empty+group-empty-spec =
+    close μ-children-empty μ-group-empty (λ t. children-empty-lts.spec (
+      item-row-reads.Asked,
+      item-row-reads.Learnt,
+      is-plain-child-reads.Asked,
+      is-plain-child-reads.Learnt,
+      group-empty-below t,
+      group-empty.Post,
+      children-empty-below t,
+      children-empty.Post,
+    )
+    (children-empty-at t)
+    children-empty.Post
+    (children-empty-returns t)
+    (children-empty-item-row-requires t)
+    (children-empty-returns-2 t)
+    (children-empty-is-plain-child-requires t)
+    (children-empty-group-empty-requires t)
+    (children-empty-add-children-empty t)
+    (children-empty-sub-children-empty t)
+    (children-empty-children-empty-requires t)
+    (children-empty-add-children-empty-2 t)
+    (children-empty-sub-children-empty-2 t)
+    (children-empty-children-empty-requires-2 t)
+    (children-empty-returns-3 t)
+    (children-empty-returns-4 t)
+    (children-empty-returns-5 t))
+    λ t. group-empty-lts.spec
+    (item-row-reads.Asked, item-row-reads.Learnt, children-empty-below t, children-empty.Post)
+    (group-empty-at t)
+    group-empty.Post
+    (group-empty-item-row-requires t)
+    (group-empty-add-children-empty t)
+    (group-empty-sub-children-empty t)
+    (group-empty-children-empty-requires t)
+    (group-empty-returns t)
+    (group-empty-returns-2 t)
