@@ -1,7 +1,7 @@
 -- What each way out of a function of this crate owes, as the code meets it: a premise for each test and for each call's result.
 -- Assumes nothing.
-use mathlib.Core.Path.{_≡_, refl, sym, ap, ap₂, _∙_}
-use mathlib.Core.Bool.{Bool, true, false, cond, not, _&&_, true≢false}
+use mathlib.Core.Path.{_≡_, sym, ap, ap₂, _∙_}
+use mathlib.Core.Bool.{Bool, true, false, cond, not, _&&_}
 use mathlib.Core.List.{List, _∷_}
 use Prim.Native.Nat.{ℕ, _+_, _-_, _<_, _≤_}
 use native.Mathlib.Omega.{arith}
@@ -11,6 +11,7 @@ use Rattle.item.specs.declared.ItemRow.{ItemRow}
 use Rattle.item.specs.Rows.{itemRow, isListed}
 use Rattle.nest.specs.Lists.{rowsFrom, eachRow, isShallow, deepestAfter, isNested}
 use Rattle.nest.specs.Flat.{isPlainChild, childrenEmpty, groupEmpty}
+use Rattle.nest.proofs.Lists.{each-first, each-rest}
 use Rattle.nest.proofs.Rows.{rows-none, rows-step, rest-all, rest-none, rest-step}
 
 -- ---- each_shallow, each_listed: the rows that are left settle the answer
@@ -80,14 +81,6 @@ module _ (row : ItemRow) (group : ℕ) (inside : group < row .depth) where
 pub ruleset plains = (no-child, hidden-child, plain-child)
 
 -- ---- is_nested: the rows that are left settle the answer, and they are shallow
-and-left : (a b : Bool) → (a && b) ≡ true → a ≡ true
-and-left true b e = refl
-and-left false b e = e
-
-and-right : (a b : Bool) → (a && b) ≡ true → b ≡ true
-and-right true b e = e
-and-right false b e = absurd (true≢false (sym e))
-
 module _ (rows : List ℕ) (n : ℕ) where
   pub nested-start : isNested 0 (rowsFrom rows 0 (n - 0)) ≡ isNested 0 (rowsFrom rows 0 n)
   nested-start = ap (isNested 0) (rest-all rows n)
@@ -96,15 +89,14 @@ module _ (rows : List ℕ) (n : ℕ) where
   flat-start e = ap (eachRow isShallow) (rest-all rows n) ∙ e
 
   module _ (i : ℕ) (flat : eachRow isShallow (rowsFrom rows i (n - i)) ≡ true) (h : i < n) where
-    flat-step : (isShallow (itemRow rows i) && eachRow isShallow (rowsFrom rows (i + 1) (n - (i + 1)))) ≡ true
-    unfolding eachRow
+    flat-step : eachRow isShallow (itemRow rows i ∷ rowsFrom rows (i + 1) (n - (i + 1))) ≡ true
     flat-step = ap (eachRow isShallow) (sym (rest-step rows i n h)) ∙ flat
 
     pub flat-row : (row : ItemRow) → row ≡ itemRow rows i → row .depth ≤ 8
-    flat-row row row-is = leb-true (row .depth) 8 (ap isShallow row-is ∙ and-left (isShallow (itemRow rows i)) _ flat-step)
+    flat-row row row-is = leb-true (row .depth) 8 (ap isShallow row-is ∙ each-first isShallow (itemRow rows i) (rowsFrom rows (i + 1) (n - (i + 1))) flat-step)
 
     pub flat-next : eachRow isShallow (rowsFrom rows (i + 1) (n - (i + 1))) ≡ true
-    flat-next = and-right (isShallow (itemRow rows i)) _ flat-step
+    flat-next = each-rest isShallow (itemRow rows i) (rowsFrom rows (i + 1) (n - (i + 1))) flat-step
 
   module _ (i deepest : ℕ) (left : isNested deepest (rowsFrom rows i (n - i)) ≡ isNested 0 (rowsFrom rows 0 n)) where
     pub nested-end : n ≤ i → true ≡ isNested 0 (rowsFrom rows 0 n)
