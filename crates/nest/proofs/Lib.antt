@@ -3,3 +3,4 @@ pub mod Rows
 pub mod Lists
 pub mod Ways
 pub mod Items
+pub mod Alike
