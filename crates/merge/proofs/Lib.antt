@@ -1,1 +1,2 @@
--- What the proofs of `merge` cite.
+-- The merge rule on rows.
+pub mod Flat

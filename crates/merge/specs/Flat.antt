@@ -1,4 +1,4 @@
--- The merge rule on flat rows: what the code works out. proofs/Rule.antt shows that it is the rule on nested items. Definitions only.
+-- The merge rule on flat rows: what the code works out. proofs/Flat.antt shows that it is the rule on nested items. Definitions only.
 use Prim.Native.Nat.{ℕ, _+_}
 use mathlib.Core.Bool.{Bool, true, cond, not, _&&_, _||_}
 use mathlib.Core.List.{List, [], _∷_}
