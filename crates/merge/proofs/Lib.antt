@@ -1,2 +1,3 @@
--- The merge rule on rows.
+-- What the proofs of `merge` cite: the rule on rows, and each way out of a function.
 pub mod Flat
+pub mod Ways
