@@ -13,7 +13,7 @@ use mir.Val.{Fits}
 use mir.Syntax.{w64}
 use Rattle.command.specs.declared.PathCommand.{PathCommand}
 use Rattle.command.specs.declared.PathCommand.the-variants.{Move, Line, Cubic, Close, Quad}
-use Rattle.command.specs.Commands.{coordinatesOf, codesOf, numbersOf}
+use Rattle.command.specs.Commands.{codeOf, coordinatesOf, codesOf, numbersOf}
 
 -- ---- sizes
 
@@ -33,6 +33,10 @@ codes-length [] = refl
 codes-length (c ∷ cs) = ap suc (codes-length cs)
 
 -- ---- one list after another
+pub codes-append : (cs ds : List PathCommand) → codesOf (cs ++ ds) ≡ codesOf cs ++ codesOf ds
+codes-append [] ds = refl
+codes-append (c ∷ cs) ds = ap (λ (l : List ℕ). codeOf c ∷ l) (codes-append cs ds)
+
 pub numbers-append : (cs ds : List PathCommand) → numbersOf (cs ++ ds) ≡ numbersOf cs ++ numbersOf ds
 numbers-append [] ds = refl
 numbers-append (c ∷ cs) ds = ap (λ (xs : List Float). coordinatesOf c ++ xs) (numbers-append cs ds) ∙ sym (append-assoc (coordinatesOf c) (numbersOf cs) (numbersOf ds))

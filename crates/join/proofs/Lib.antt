@@ -1,0 +1,2 @@
+-- What the proofs of `join` cite.
+pub mod Ways

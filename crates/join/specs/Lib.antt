@@ -1,0 +1,3 @@
+-- What a merge answers, and what its rows draw one by one.
+pub mod Merge
+pub mod Sources
