@@ -92,11 +92,10 @@ pub fn group_empty(rows: &[u32], i: usize, left: usize) -> bool
     ensures { λ r. ⌜ r ≡ groupEmpty (itemRow (now (rows .entry)) i) (rowsFrom (now (rows .entry)) (i + 1) (left - 1)) ⌝ }
 {
     let row = item::item_row(rows, i);
-    if row.kind == 5 {
-        children_empty(rows, i + 1, left - 1, row.depth)
-    } else {
-        false
+    if row.kind != 5 {
+        return false;
     }
+    children_empty(rows, i + 1, left - 1, row.depth)
 }
 
 // Whether each child of a group at this depth is hidden, a tr or an empty group. The group's rows start at row i.

@@ -16,6 +16,7 @@ use Rattle.nest.proofs.is_plain_child.Reads as is-plain-child-reads
 use Rattle.nest.proofs.+children_empty+group_empty.{statement}
 use Rattle.nest.proofs.+children_empty+group_empty.Tie.{close}
 
+-- the third parameter is the number of rows that are left
 abbrev μ-children-empty : Measures 1 children-empty-kinds.ps ℕ
 μ-children-empty κs a = 2 * a .1 .1 .0 + 1
 
@@ -46,7 +47,9 @@ abbrev group-empty-below : ℕ → In 1 group-empty-kinds.ps
 group-empty-below t =
     and 1 group-empty-kinds.ps (falls 1 group-empty-kinds.ps _<_ μ-group-empty t) group-empty.Pre
 
-children-empty-returns : (t : ℕ) → children-empty-lts.Need-returns (
+-- what is asked and learnt of each call; of the two functions themselves, only where the measure falls
+abbrev children-empty-calls : ℕ → children-empty-lts.Claims
+children-empty-calls t = (
   item-row-reads.Asked,
   item-row-reads.Learnt,
   is-plain-child-reads.Asked,
@@ -55,226 +58,75 @@ children-empty-returns : (t : ℕ) → children-empty-lts.Need-returns (
   group-empty.Post,
   children-empty-below t,
   children-empty.Post,
-) (children-empty-at t) children-empty.Post
+)
+
+abbrev group-empty-calls : ℕ → group-empty-lts.Claims
+group-empty-calls t = (item-row-reads.Asked, item-row-reads.Learnt, children-empty-below t, children-empty.Post)
+
+children-empty-returns : (t : ℕ) → children-empty-lts.Need-returns (children-empty-calls t) (children-empty-at t) children-empty.Post
 children-empty-returns t c = search (needs, children)
 
-children-empty-item-row-requires : (t : ℕ) → children-empty-lts.Need-item-row-requires (
-  item-row-reads.Asked,
-  item-row-reads.Learnt,
-  is-plain-child-reads.Asked,
-  is-plain-child-reads.Learnt,
-  group-empty-below t,
-  group-empty.Post,
-  children-empty-below t,
-  children-empty.Post,
-) (children-empty-at t) children-empty.Post
+children-empty-item-row-requires : (t : ℕ) → children-empty-lts.Need-item-row-requires (children-empty-calls t) (children-empty-at t) children-empty.Post
 children-empty-item-row-requires t c κs = search (needs, children)
 
-children-empty-returns-2 : (t : ℕ) → children-empty-lts.Need-returns-2 (
-  item-row-reads.Asked,
-  item-row-reads.Learnt,
-  is-plain-child-reads.Asked,
-  is-plain-child-reads.Learnt,
-  group-empty-below t,
-  group-empty.Post,
-  children-empty-below t,
-  children-empty.Post,
-) (children-empty-at t) children-empty.Post
+children-empty-returns-2 : (t : ℕ) → children-empty-lts.Need-returns-2 (children-empty-calls t) (children-empty-at t) children-empty.Post
 children-empty-returns-2 t c = search (needs, children)
 
-children-empty-is-plain-child-requires : (t : ℕ) → children-empty-lts.Need-is-plain-child-requires (
-  item-row-reads.Asked,
-  item-row-reads.Learnt,
-  is-plain-child-reads.Asked,
-  is-plain-child-reads.Learnt,
-  group-empty-below t,
-  group-empty.Post,
-  children-empty-below t,
-  children-empty.Post,
-) (children-empty-at t) children-empty.Post
+children-empty-is-plain-child-requires : (t : ℕ) → children-empty-lts.Need-is-plain-child-requires (children-empty-calls t) (children-empty-at t) children-empty.Post
 children-empty-is-plain-child-requires t c κs = search (needs, children)
 
-children-empty-group-empty-requires : (t : ℕ) → children-empty-lts.Need-group-empty-requires (
-  item-row-reads.Asked,
-  item-row-reads.Learnt,
-  is-plain-child-reads.Asked,
-  is-plain-child-reads.Learnt,
-  group-empty-below t,
-  group-empty.Post,
-  children-empty-below t,
-  children-empty.Post,
-) (children-empty-at t) children-empty.Post
+children-empty-group-empty-requires : (t : ℕ) → children-empty-lts.Need-group-empty-requires (children-empty-calls t) (children-empty-at t) children-empty.Post
 children-empty-group-empty-requires t c κs = search (needs, children)
 
-children-empty-add-children-empty : (t : ℕ) → children-empty-lts.Need-add-children-empty (
-  item-row-reads.Asked,
-  item-row-reads.Learnt,
-  is-plain-child-reads.Asked,
-  is-plain-child-reads.Learnt,
-  group-empty-below t,
-  group-empty.Post,
-  children-empty-below t,
-  children-empty.Post,
-) (children-empty-at t) children-empty.Post
+children-empty-add-children-empty : (t : ℕ) → children-empty-lts.Need-add-children-empty (children-empty-calls t) (children-empty-at t) children-empty.Post
 children-empty-add-children-empty t c = search (needs, children)
 
-children-empty-sub-children-empty : (t : ℕ) → children-empty-lts.Need-sub-children-empty (
-  item-row-reads.Asked,
-  item-row-reads.Learnt,
-  is-plain-child-reads.Asked,
-  is-plain-child-reads.Learnt,
-  group-empty-below t,
-  group-empty.Post,
-  children-empty-below t,
-  children-empty.Post,
-) (children-empty-at t) children-empty.Post
+children-empty-sub-children-empty : (t : ℕ) → children-empty-lts.Need-sub-children-empty (children-empty-calls t) (children-empty-at t) children-empty.Post
 children-empty-sub-children-empty t c = search (needs, children)
 
-children-empty-children-empty-requires : (t : ℕ) → children-empty-lts.Need-children-empty-requires (
-  item-row-reads.Asked,
-  item-row-reads.Learnt,
-  is-plain-child-reads.Asked,
-  is-plain-child-reads.Learnt,
-  group-empty-below t,
-  group-empty.Post,
-  children-empty-below t,
-  children-empty.Post,
-) (children-empty-at t) children-empty.Post
+children-empty-children-empty-requires : (t : ℕ) → children-empty-lts.Need-children-empty-requires (children-empty-calls t) (children-empty-at t) children-empty.Post
 children-empty-children-empty-requires t c κs = search (needs, children)
 
-children-empty-add-children-empty-2 : (t : ℕ) → children-empty-lts.Need-add-children-empty-2 (
-  item-row-reads.Asked,
-  item-row-reads.Learnt,
-  is-plain-child-reads.Asked,
-  is-plain-child-reads.Learnt,
-  group-empty-below t,
-  group-empty.Post,
-  children-empty-below t,
-  children-empty.Post,
-) (children-empty-at t) children-empty.Post
+children-empty-add-children-empty-2 : (t : ℕ) → children-empty-lts.Need-add-children-empty-2 (children-empty-calls t) (children-empty-at t) children-empty.Post
 children-empty-add-children-empty-2 t c = search (needs, children)
 
-children-empty-sub-children-empty-2 : (t : ℕ) → children-empty-lts.Need-sub-children-empty-2 (
-  item-row-reads.Asked,
-  item-row-reads.Learnt,
-  is-plain-child-reads.Asked,
-  is-plain-child-reads.Learnt,
-  group-empty-below t,
-  group-empty.Post,
-  children-empty-below t,
-  children-empty.Post,
-) (children-empty-at t) children-empty.Post
+children-empty-sub-children-empty-2 : (t : ℕ) → children-empty-lts.Need-sub-children-empty-2 (children-empty-calls t) (children-empty-at t) children-empty.Post
 children-empty-sub-children-empty-2 t c = search (needs, children)
 
 children-empty-children-empty-requires-2 :
-    (t : ℕ) → children-empty-lts.Need-children-empty-requires-2 (
-      item-row-reads.Asked,
-      item-row-reads.Learnt,
-      is-plain-child-reads.Asked,
-      is-plain-child-reads.Learnt,
-      group-empty-below t,
-      group-empty.Post,
-      children-empty-below t,
-      children-empty.Post,
-    ) (children-empty-at t) children-empty.Post
+    (t : ℕ) → children-empty-lts.Need-children-empty-requires-2 (children-empty-calls t) (children-empty-at t) children-empty.Post
 children-empty-children-empty-requires-2 t c κs = search (needs, children)
 
-children-empty-returns-3 : (t : ℕ) → children-empty-lts.Need-returns-3 (
-  item-row-reads.Asked,
-  item-row-reads.Learnt,
-  is-plain-child-reads.Asked,
-  is-plain-child-reads.Learnt,
-  group-empty-below t,
-  group-empty.Post,
-  children-empty-below t,
-  children-empty.Post,
-) (children-empty-at t) children-empty.Post
+children-empty-returns-3 : (t : ℕ) → children-empty-lts.Need-returns-3 (children-empty-calls t) (children-empty-at t) children-empty.Post
 children-empty-returns-3 t c = search (needs, children)
 
-children-empty-returns-4 : (t : ℕ) → children-empty-lts.Need-returns-4 (
-  item-row-reads.Asked,
-  item-row-reads.Learnt,
-  is-plain-child-reads.Asked,
-  is-plain-child-reads.Learnt,
-  group-empty-below t,
-  group-empty.Post,
-  children-empty-below t,
-  children-empty.Post,
-) (children-empty-at t) children-empty.Post
+children-empty-returns-4 : (t : ℕ) → children-empty-lts.Need-returns-4 (children-empty-calls t) (children-empty-at t) children-empty.Post
 children-empty-returns-4 t c = search (needs, children)
 
-children-empty-returns-5 : (t : ℕ) → children-empty-lts.Need-returns-5 (
-  item-row-reads.Asked,
-  item-row-reads.Learnt,
-  is-plain-child-reads.Asked,
-  is-plain-child-reads.Learnt,
-  group-empty-below t,
-  group-empty.Post,
-  children-empty-below t,
-  children-empty.Post,
-) (children-empty-at t) children-empty.Post
+children-empty-returns-5 : (t : ℕ) → children-empty-lts.Need-returns-5 (children-empty-calls t) (children-empty-at t) children-empty.Post
 children-empty-returns-5 t c = search (needs, children)
 
-group-empty-item-row-requires : (t : ℕ) → group-empty-lts.Need-item-row-requires (
-  item-row-reads.Asked,
-  item-row-reads.Learnt,
-  children-empty-below t,
-  children-empty.Post,
-) (group-empty-at t) group-empty.Post
+group-empty-item-row-requires : (t : ℕ) → group-empty-lts.Need-item-row-requires (group-empty-calls t) (group-empty-at t) group-empty.Post
 group-empty-item-row-requires t c κs = search (needs, groups)
 
-group-empty-add-children-empty : (t : ℕ) → group-empty-lts.Need-add-children-empty (
-  item-row-reads.Asked,
-  item-row-reads.Learnt,
-  children-empty-below t,
-  children-empty.Post,
-) (group-empty-at t) group-empty.Post
-group-empty-add-children-empty t c = search (needs, groups)
-
-group-empty-sub-children-empty : (t : ℕ) → group-empty-lts.Need-sub-children-empty (
-  item-row-reads.Asked,
-  item-row-reads.Learnt,
-  children-empty-below t,
-  children-empty.Post,
-) (group-empty-at t) group-empty.Post
-group-empty-sub-children-empty t c = search (needs, groups)
-
-group-empty-children-empty-requires : (t : ℕ) → group-empty-lts.Need-children-empty-requires (
-  item-row-reads.Asked,
-  item-row-reads.Learnt,
-  children-empty-below t,
-  children-empty.Post,
-) (group-empty-at t) group-empty.Post
-group-empty-children-empty-requires t c κs = search (needs, groups)
-
-group-empty-returns : (t : ℕ) → group-empty-lts.Need-returns (
-  item-row-reads.Asked,
-  item-row-reads.Learnt,
-  children-empty-below t,
-  children-empty.Post,
-) (group-empty-at t) group-empty.Post
+group-empty-returns : (t : ℕ) → group-empty-lts.Need-returns (group-empty-calls t) (group-empty-at t) group-empty.Post
 group-empty-returns t c = search (needs, groups)
 
-group-empty-returns-2 : (t : ℕ) → group-empty-lts.Need-returns-2 (
-  item-row-reads.Asked,
-  item-row-reads.Learnt,
-  children-empty-below t,
-  children-empty.Post,
-) (group-empty-at t) group-empty.Post
+group-empty-add-children-empty : (t : ℕ) → group-empty-lts.Need-add-children-empty (group-empty-calls t) (group-empty-at t) group-empty.Post
+group-empty-add-children-empty t c = search (needs, groups)
+
+group-empty-sub-children-empty : (t : ℕ) → group-empty-lts.Need-sub-children-empty (group-empty-calls t) (group-empty-at t) group-empty.Post
+group-empty-sub-children-empty t c = search (needs, groups)
+
+group-empty-children-empty-requires : (t : ℕ) → group-empty-lts.Need-children-empty-requires (group-empty-calls t) (group-empty-at t) group-empty.Post
+group-empty-children-empty-requires t c κs = search (needs, groups)
+
+group-empty-returns-2 : (t : ℕ) → group-empty-lts.Need-returns-2 (group-empty-calls t) (group-empty-at t) group-empty.Post
 group-empty-returns-2 t c = search (needs, groups)
 
 pub +children-empty+group-empty-spec : {M : Type 1} → statement M
 +children-empty+group-empty-spec =
-    close μ-children-empty μ-group-empty (λ t. children-empty-lts.spec (
-      item-row-reads.Asked,
-      item-row-reads.Learnt,
-      is-plain-child-reads.Asked,
-      is-plain-child-reads.Learnt,
-      group-empty-below t,
-      group-empty.Post,
-      children-empty-below t,
-      children-empty.Post,
-    )
+    close μ-children-empty μ-group-empty (λ t. children-empty-lts.spec (children-empty-calls t)
     (children-empty-at t)
     children-empty.Post
     (children-empty-returns t)
@@ -292,12 +144,12 @@ pub +children-empty+group-empty-spec : {M : Type 1} → statement M
     (children-empty-returns-4 t)
     (children-empty-returns-5 t))
     λ t. group-empty-lts.spec
-    (item-row-reads.Asked, item-row-reads.Learnt, children-empty-below t, children-empty.Post)
+    (group-empty-calls t)
     (group-empty-at t)
     group-empty.Post
     (group-empty-item-row-requires t)
+    (group-empty-returns t)
     (group-empty-add-children-empty t)
     (group-empty-sub-children-empty t)
     (group-empty-children-empty-requires t)
-    (group-empty-returns t)
     (group-empty-returns-2 t)
