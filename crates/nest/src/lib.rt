@@ -16,10 +16,11 @@ pub fn each_shallow(rows: &[u32], n: usize) -> bool
     let mut i: usize = 0;
     while i < n {
         let row = item::item_row(rows, i);
-        if row.depth > 8 {
+        if row.depth <= 8 {
+            i += 1;
+        } else {
             return false;
         }
-        i += 1;
     }
     true
 }

@@ -19,9 +19,6 @@ loop-holds c = search (needs, shallows)
 item-row-requires : tie.Need-item-row-requires Inv-loop μ-loop
 item-row-requires c κs = search (needs, shallows)
 
-returns : tie.Need-returns Inv-loop μ-loop
-returns c = search (needs, shallows)
-
 add-i : tie.Need-add-i Inv-loop μ-loop
 add-i c = search (needs, shallows)
 
@@ -30,6 +27,9 @@ loop-less c = search (needs, shallows)
 
 loop-again : tie.Need-loop-again Inv-loop μ-loop
 loop-again c = search (needs, shallows)
+
+returns : tie.Need-returns Inv-loop μ-loop
+returns c = search (needs, shallows)
 
 returns-2 : tie.Need-returns-2 Inv-loop μ-loop
 returns-2 c = search (needs, shallows)
@@ -42,8 +42,8 @@ each-shallow-spec =
     μ-loop
     loop-holds
     item-row-requires
-    returns
     add-i
     loop-less
     loop-again
+    returns
     returns-2)
