@@ -11,6 +11,7 @@ ghost use Rattle.ieee.specs.Root.{hypotOf};
 ghost use Rattle.command.specs.Outcomes.{Filled, fitted};
 ghost use Rattle.draw.specs.Paths.{drawPath};
 ghost use Rattle.draw.specs.Items.{drawItem};
+ghost use Rattle.join.specs.Merge.{drawMerge};
 ghost use Rattle.judge.specs.Lists.{Located, findCommand};
 ghost use Rattle.length.specs.Lists.{Told, measureList};
 ghost use Rattle.cut.specs.Calls.{trimRanges, trimLengths};
@@ -107,6 +108,27 @@ pub extern "C" fn jengafir_draw_item(
         (now (codes .entry)) (now (codes .exit)) (now (numbers .entry)) (now (numbers .exit)) ⌝ }
 {
     let drawn = draw::draw_item(row, items, codes, numbers);
+    *codes_written = command::drawn_codes(drawn);
+    *numbers_written = command::drawn_numbers(drawn);
+    command::drawn_number(drawn)
+}
+
+#[no_mangle]
+pub extern "C" fn jengafir_merge(
+    rows: &[u32],
+    row_count: usize,
+    items: &[f32],
+    codes: &mut [u8],
+    numbers: &mut [f32],
+    codes_written: &mut usize,
+    numbers_written: &mut usize,
+) -> u32
+    ensures { λ r. ⌜ Filled
+        (fitted (length (now (codes .entry))) (length (now (numbers .entry))) (drawMerge (now (rows .entry)) «row_count» (now (items .entry))))
+        r (now («codes_written» .exit)) (now («numbers_written» .exit))
+        (now (codes .entry)) (now (codes .exit)) (now (numbers .entry)) (now (numbers .exit)) ⌝ }
+{
+    let drawn = join::draw_merge(rows, row_count, items, codes, numbers);
     *codes_written = command::drawn_codes(drawn);
     *numbers_written = command::drawn_numbers(drawn);
     command::drawn_number(drawn)
