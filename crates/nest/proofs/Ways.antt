@@ -119,20 +119,23 @@ module _ (rows : List ℕ) (n : ℕ) where
 
 pub ruleset nesteds = (nested-start, flat-start, flat-row, flat-next, nested-end, nested-not, nested-next)
 
--- ---- children_empty
-module _ (rows : List ℕ) (i left group : ℕ) where
-  pub children-none : left ≡ 0 → true ≡ childrenEmpty group (rowsFrom rows i left)
+-- ---- children_empty: the rows that are left settle the answer
+module _ (rows : List ℕ) (i left group : ℕ) (answer : Bool) (left-is : childrenEmpty group (rowsFrom rows i left) ≡ answer) where
+  pub children-none : left ≤ 0 → true ≡ answer
   unfolding childrenEmpty
-  children-none e = ap (childrenEmpty group) (sym (ap (rowsFrom rows i) e ∙ rows-none rows i))
+  children-none h =
+      let e : left ≡ 0 = omega arith in
+      ap (childrenEmpty group) (sym (ap (rowsFrom rows i) e ∙ rows-none rows i)) ∙ left-is
 
-  module _ (some : left ≡ 0 → ⊥) (row : ItemRow) (row-is : row ≡ itemRow rows i) where
+  module _ (some : 0 < left) (row : ItemRow) (row-is : row ≡ itemRow rows i) where
     -- the rows with the one that was read in front
-    first : childrenEmpty group (row ∷ rowsFrom rows (i + 1) (left - 1)) ≡ childrenEmpty group (rowsFrom rows i left)
+    first : childrenEmpty group (row ∷ rowsFrom rows (i + 1) (left - 1)) ≡ answer
     first =
         ap (λ (r : ItemRow). childrenEmpty group (r ∷ rowsFrom rows (i + 1) (left - 1))) row-is
-        ∙ ap (childrenEmpty group) (sym (rows-step rows i left (omega arith)))
+        ∙ ap (childrenEmpty group) (sym (rows-step rows i left some))
+        ∙ left-is
 
-    pub children-over : row .depth ≤ group → true ≡ childrenEmpty group (rowsFrom rows i left)
+    pub children-over : row .depth ≤ group → true ≡ answer
     children-over h = over ∙ first
       where
         over : true ≡ childrenEmpty group (row ∷ rowsFrom rows (i + 1) (left - 1))
@@ -144,23 +147,30 @@ module _ (rows : List ℕ) (i left group : ℕ) where
       unfolding childrenEmpty groupEmpty
       row-inside = rw (x-is, lt-leb (row .depth) group inside)
 
-      pub children-passed : x ≡ false → (y : Bool) → y ≡ childrenEmpty group (rowsFrom rows (i + 1) (left - 1)) → y ≡ childrenEmpty group (rowsFrom rows i left)
-      children-passed t y y-is = y-is ∙ (rw t at row-inside) ∙ first
+      pub children-passed : x ≡ false → childrenEmpty group (rowsFrom rows (i + 1) (left - 1)) ≡ answer
+      children-passed t = (rw t at row-inside) ∙ first
 
       module _ (plain : x ≡ true) (e : Bool) (e-is : e ≡ groupEmpty (itemRow rows i) (rowsFrom rows (i + 1) (left - 1))) where
-        plain-first : (e && childrenEmpty group (rowsFrom rows (i + 1) (left - 1))) ≡ childrenEmpty group (rowsFrom rows i left)
+        plain-first : (e && childrenEmpty group (rowsFrom rows (i + 1) (left - 1))) ≡ answer
         plain-first =
             ap (λ (b : Bool). b && childrenEmpty group (rowsFrom rows (i + 1) (left - 1))) (e-is ∙ ap (λ (r : ItemRow). groupEmpty r (rowsFrom rows (i + 1) (left - 1))) (sym row-is))
             ∙ (rw plain at row-inside)
             ∙ first
 
-        pub children-drawn : e ≡ false → false ≡ childrenEmpty group (rowsFrom rows i left)
+        pub children-drawn : e ≡ false → false ≡ answer
         children-drawn t = rw t at plain-first
 
-        pub children-next : e ≡ true → (y : Bool) → y ≡ childrenEmpty group (rowsFrom rows (i + 1) (left - 1)) → y ≡ childrenEmpty group (rowsFrom rows i left)
-        children-next t y y-is = y-is ∙ (rw t at plain-first)
+        empty-next : e ≡ true → childrenEmpty group (rowsFrom rows (i + 1) (left - 1)) ≡ answer
+        empty-next t = rw t at plain-first
 
-pub ruleset children = (children-none, children-over, children-passed, children-drawn, children-next)
+-- the same with what the calls said in front, which tells all the rest
+pub children-next : (rows : List ℕ) (i left group : ℕ) (answer e : Bool) → e ≡ groupEmpty (itemRow rows i) (rowsFrom rows (i + 1) (left - 1)) → e ≡ true
+    → (row : ItemRow) → row ≡ itemRow rows i → group < row .depth → (x : Bool) → x ≡ isPlainChild group row → x ≡ true → 0 < left
+    → childrenEmpty group (rowsFrom rows i left) ≡ answer → childrenEmpty group (rowsFrom rows (i + 1) (left - 1)) ≡ answer
+children-next rows i left group answer e e-is t row row-is inside x x-is plain some left-is =
+    empty-next rows i left group answer left-is some row row-is inside x x-is plain e e-is t
+
+pub ruleset children = (children-none, children-over, children-passed, children-drawn)
 
 -- ---- group_empty
 module _ (row : ItemRow) (rest : List ItemRow) where

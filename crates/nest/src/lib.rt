@@ -104,20 +104,24 @@ fn children_empty(rows: &[u32], i: usize, left: usize, group: u32) -> bool
     requires { ⌜ 6 * (i + left) ≤ length (now rows) ⌝ }
     ensures { λ r. ⌜ r ≡ childrenEmpty group (rowsFrom (now (rows .entry)) i left) ⌝ }
 {
-    if left == 0 {
-        return true;
-    }
-    let row = item::item_row(rows, i);
-    if row.depth <= group {
-        return true;
-    }
-    if is_plain_child(row, group) {
-        if group_empty(rows, i, left) {
-            children_empty(rows, i + 1, left - 1, group)
-        } else {
-            false
+    let mut at = i;
+    let mut rest = left;
+    while rest > 0 {
+        let row = item::item_row(rows, at);
+        if row.depth <= group {
+            return true;
         }
-    } else {
-        children_empty(rows, i + 1, left - 1, group)
+        if is_plain_child(row, group) {
+            if group_empty(rows, at, rest) {
+                at += 1;
+                rest -= 1;
+            } else {
+                return false;
+            }
+        } else {
+            at += 1;
+            rest -= 1;
+        }
     }
+    true
 }

@@ -1,8 +1,11 @@
 -- `nest::children_empty` and `nest::group_empty`, which call each other, meet their contracts. The measure falls with the rows that are left, and from a child list to a group of it.
 -- Assumes nothing.
-use Prim.Native.Nat.{ℕ, _+_, _*_, _<_}
+use mathlib.Core.Path.{_≡_}
+use Prim.Native.Nat.{ℕ, _+_, _*_, _≤_, _<_}
 use borrow.Author.Needs.{needs}
-use Rattle.nest.proofs.Ways.{children, groups}
+use Rattle.nest.specs.Lists.{rowsFrom}
+use Rattle.nest.specs.Flat.{childrenEmpty}
+use Rattle.nest.proofs.Ways.{children, children-next, groups}
 use borrow.Fn.Kinds.{In}
 use borrow.Fn.PlainCycle.{Measures, is, falls, and}
 use Rattle.nest.proofs.children_empty.Reads as children-empty
@@ -56,55 +59,66 @@ children-empty-calls t = (
   is-plain-child-reads.Learnt,
   group-empty-below t,
   group-empty.Post,
-  children-empty-below t,
-  children-empty.Post,
 )
 
 abbrev group-empty-calls : ℕ → group-empty-lts.Claims
 group-empty-calls t = (item-row-reads.Asked, item-row-reads.Learnt, children-empty-below t, children-empty.Post)
 
-children-empty-returns : (t : ℕ) → children-empty-lts.Need-returns (children-empty-calls t) (children-empty-at t) children-empty.Post
-children-empty-returns t c = search (needs, children)
+-- the rows that are left settle the answer
+abbrev children-empty-Inv-loop : children-empty-lts.InvT-loop
+children-empty-Inv-loop rows i left group at₀ rest₀ at rest = (rest ≤ left) × (at + rest ≡ i + left) × (childrenEmpty group (rowsFrom rows at rest) ≡ childrenEmpty group (rowsFrom rows i left))
 
-children-empty-item-row-requires : (t : ℕ) → children-empty-lts.Need-item-row-requires (children-empty-calls t) (children-empty-at t) children-empty.Post
+abbrev children-empty-μ-loop : children-empty-lts.MeasureT-loop
+children-empty-μ-loop rows i left group at₀ rest₀ at rest = rest
+
+children-empty-loop-holds : (t : ℕ) → children-empty-lts.Need-loop-holds (children-empty-calls t) (children-empty-at t) children-empty.Post children-empty-Inv-loop children-empty-μ-loop
+children-empty-loop-holds t c = search (needs, children)
+
+children-empty-item-row-requires : (t : ℕ) → children-empty-lts.Need-item-row-requires (children-empty-calls t) (children-empty-at t) children-empty.Post children-empty-Inv-loop children-empty-μ-loop
 children-empty-item-row-requires t c κs = search (needs, children)
 
-children-empty-returns-2 : (t : ℕ) → children-empty-lts.Need-returns-2 (children-empty-calls t) (children-empty-at t) children-empty.Post
-children-empty-returns-2 t c = search (needs, children)
+children-empty-returns : (t : ℕ) → children-empty-lts.Need-returns (children-empty-calls t) (children-empty-at t) children-empty.Post children-empty-Inv-loop children-empty-μ-loop
+children-empty-returns t c = search (needs, children)
 
-children-empty-is-plain-child-requires : (t : ℕ) → children-empty-lts.Need-is-plain-child-requires (children-empty-calls t) (children-empty-at t) children-empty.Post
+children-empty-is-plain-child-requires : (t : ℕ) → children-empty-lts.Need-is-plain-child-requires (children-empty-calls t) (children-empty-at t) children-empty.Post children-empty-Inv-loop children-empty-μ-loop
 children-empty-is-plain-child-requires t c κs = search (needs, children)
 
-children-empty-group-empty-requires : (t : ℕ) → children-empty-lts.Need-group-empty-requires (children-empty-calls t) (children-empty-at t) children-empty.Post
+children-empty-group-empty-requires : (t : ℕ) → children-empty-lts.Need-group-empty-requires (children-empty-calls t) (children-empty-at t) children-empty.Post children-empty-Inv-loop children-empty-μ-loop
 children-empty-group-empty-requires t c κs = search (needs, children)
 
-children-empty-add-children-empty : (t : ℕ) → children-empty-lts.Need-add-children-empty (children-empty-calls t) (children-empty-at t) children-empty.Post
-children-empty-add-children-empty t c = search (needs, children)
+children-empty-add-at : (t : ℕ) → children-empty-lts.Need-add-at (children-empty-calls t) (children-empty-at t) children-empty.Post children-empty-Inv-loop children-empty-μ-loop
+children-empty-add-at t c = search (needs, children)
 
-children-empty-sub-children-empty : (t : ℕ) → children-empty-lts.Need-sub-children-empty (children-empty-calls t) (children-empty-at t) children-empty.Post
-children-empty-sub-children-empty t c = search (needs, children)
+children-empty-sub-rest : (t : ℕ) → children-empty-lts.Need-sub-rest (children-empty-calls t) (children-empty-at t) children-empty.Post children-empty-Inv-loop children-empty-μ-loop
+children-empty-sub-rest t c = search (needs, children)
 
-children-empty-children-empty-requires : (t : ℕ) → children-empty-lts.Need-children-empty-requires (children-empty-calls t) (children-empty-at t) children-empty.Post
-children-empty-children-empty-requires t c κs = search (needs, children)
+children-empty-loop-less : (t : ℕ) → children-empty-lts.Need-loop-less (children-empty-calls t) (children-empty-at t) children-empty.Post children-empty-Inv-loop children-empty-μ-loop
+children-empty-loop-less t c = search (needs, children)
 
-children-empty-add-children-empty-2 : (t : ℕ) → children-empty-lts.Need-add-children-empty-2 (children-empty-calls t) (children-empty-at t) children-empty.Post
-children-empty-add-children-empty-2 t c = search (needs, children)
+children-empty-loop-again : (t : ℕ) → children-empty-lts.Need-loop-again (children-empty-calls t) (children-empty-at t) children-empty.Post children-empty-Inv-loop children-empty-μ-loop
+children-empty-loop-again t c = (
+  search needs,
+  search needs,
+  children-next _ _ _ _ _ _ (c .before .group-empty .ensures) (search needs) _ (c .before .before .before .before .before .before .item-row .ensures) (search needs) _ (c .before .before .before .is-plain-child .ensures) (search needs) (search needs) (search needs),
+)
 
-children-empty-sub-children-empty-2 : (t : ℕ) → children-empty-lts.Need-sub-children-empty-2 (children-empty-calls t) (children-empty-at t) children-empty.Post
-children-empty-sub-children-empty-2 t c = search (needs, children)
+children-empty-returns-2 : (t : ℕ) → children-empty-lts.Need-returns-2 (children-empty-calls t) (children-empty-at t) children-empty.Post children-empty-Inv-loop children-empty-μ-loop
+children-empty-returns-2 t c = search (needs, children)
 
-children-empty-children-empty-requires-2 :
-    (t : ℕ) → children-empty-lts.Need-children-empty-requires-2 (children-empty-calls t) (children-empty-at t) children-empty.Post
-children-empty-children-empty-requires-2 t c κs = search (needs, children)
+children-empty-add-at-2 : (t : ℕ) → children-empty-lts.Need-add-at-2 (children-empty-calls t) (children-empty-at t) children-empty.Post children-empty-Inv-loop children-empty-μ-loop
+children-empty-add-at-2 t c = search (needs, children)
 
-children-empty-returns-3 : (t : ℕ) → children-empty-lts.Need-returns-3 (children-empty-calls t) (children-empty-at t) children-empty.Post
+children-empty-sub-rest-2 : (t : ℕ) → children-empty-lts.Need-sub-rest-2 (children-empty-calls t) (children-empty-at t) children-empty.Post children-empty-Inv-loop children-empty-μ-loop
+children-empty-sub-rest-2 t c = search (needs, children)
+
+children-empty-loop-less-2 : (t : ℕ) → children-empty-lts.Need-loop-less-2 (children-empty-calls t) (children-empty-at t) children-empty.Post children-empty-Inv-loop children-empty-μ-loop
+children-empty-loop-less-2 t c = search (needs, children)
+
+children-empty-loop-again-2 : (t : ℕ) → children-empty-lts.Need-loop-again-2 (children-empty-calls t) (children-empty-at t) children-empty.Post children-empty-Inv-loop children-empty-μ-loop
+children-empty-loop-again-2 t c = search (needs, children)
+
+children-empty-returns-3 : (t : ℕ) → children-empty-lts.Need-returns-3 (children-empty-calls t) (children-empty-at t) children-empty.Post children-empty-Inv-loop children-empty-μ-loop
 children-empty-returns-3 t c = search (needs, children)
-
-children-empty-returns-4 : (t : ℕ) → children-empty-lts.Need-returns-4 (children-empty-calls t) (children-empty-at t) children-empty.Post
-children-empty-returns-4 t c = search (needs, children)
-
-children-empty-returns-5 : (t : ℕ) → children-empty-lts.Need-returns-5 (children-empty-calls t) (children-empty-at t) children-empty.Post
-children-empty-returns-5 t c = search (needs, children)
 
 group-empty-item-row-requires : (t : ℕ) → group-empty-lts.Need-item-row-requires (group-empty-calls t) (group-empty-at t) group-empty.Post
 group-empty-item-row-requires t c κs = search (needs, groups)
@@ -129,20 +143,23 @@ pub +children-empty+group-empty-spec : {M : Type 1} → statement M
     close μ-children-empty μ-group-empty (λ t. children-empty-lts.spec (children-empty-calls t)
     (children-empty-at t)
     children-empty.Post
-    (children-empty-returns t)
+    children-empty-Inv-loop
+    children-empty-μ-loop
+    (children-empty-loop-holds t)
     (children-empty-item-row-requires t)
-    (children-empty-returns-2 t)
+    (children-empty-returns t)
     (children-empty-is-plain-child-requires t)
     (children-empty-group-empty-requires t)
-    (children-empty-add-children-empty t)
-    (children-empty-sub-children-empty t)
-    (children-empty-children-empty-requires t)
-    (children-empty-add-children-empty-2 t)
-    (children-empty-sub-children-empty-2 t)
-    (children-empty-children-empty-requires-2 t)
-    (children-empty-returns-3 t)
-    (children-empty-returns-4 t)
-    (children-empty-returns-5 t))
+    (children-empty-add-at t)
+    (children-empty-sub-rest t)
+    (children-empty-loop-less t)
+    (children-empty-loop-again t)
+    (children-empty-returns-2 t)
+    (children-empty-add-at-2 t)
+    (children-empty-sub-rest-2 t)
+    (children-empty-loop-less-2 t)
+    (children-empty-loop-again-2 t)
+    (children-empty-returns-3 t))
     λ t. group-empty-lts.spec
     (group-empty-calls t)
     (group-empty-at t)
