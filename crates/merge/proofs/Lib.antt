@@ -1,3 +1,4 @@
--- What the proofs of `merge` cite: the rule on rows, and each way out of a function.
+-- What the proofs of `merge` cite: the rule on rows, and each way out of a function. What a decision reads.
 pub mod Flat
 pub mod Ways
+pub mod Alike
