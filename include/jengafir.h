@@ -1,4 +1,4 @@
-/* The C interface of Jengafir: shapes drawn as path commands, paths measured, trimmed
+/* The C interface of Jengafir: shapes drawn as path commands and merged, paths measured, trimmed
    and repeated, and binary32 arithmetic. */
 #ifndef JENGAFIR_H
 #define JENGAFIR_H
@@ -36,12 +36,22 @@ enum jengafir_code {
     JENGAFIR_QUAD = 4   /* the control point and the end: x1, y1, x, y */
 };
 
-/* The kinds of item rows that are shapes, with the numbers that a row has from its place on. */
+/* The kinds of item rows, for the shapes with the numbers that a row has from its place on. */
 enum jengafir_kind {
-    JENGAFIR_SH = 1, /* a path: its vertices, six numbers each as jengafir_draw_path reads them */
-    JENGAFIR_RC = 2, /* a rectangle: centre x, y; width, height; roundness */
-    JENGAFIR_EL = 3, /* an ellipse, which is not drawn yet */
-    JENGAFIR_SR = 4  /* a polystar, which is not drawn yet */
+    JENGAFIR_SH = 1,    /* a path: its vertices, six numbers each as jengafir_draw_path reads them */
+    JENGAFIR_RC = 2,    /* a rectangle: centre x, y; width, height; roundness */
+    JENGAFIR_EL = 3,    /* an ellipse, which is not drawn yet */
+    JENGAFIR_SR = 4,    /* a polystar, which is not drawn yet */
+    JENGAFIR_GR = 5,    /* a group: the rows after it that are deeper are in it */
+    JENGAFIR_TR = 6,    /* a transform */
+    JENGAFIR_FL = 7,    /* a fill */
+    JENGAFIR_ST = 8,    /* a stroke */
+    JENGAFIR_GF = 9,    /* a gradient fill */
+    JENGAFIR_GS = 10,   /* a gradient stroke */
+    JENGAFIR_TM = 11,   /* a trim */
+    JENGAFIR_RP = 12,   /* a repeater */
+    JENGAFIR_MM = 13,   /* a merge */
+    JENGAFIR_OTHER = 14 /* any other item */
 };
 
 /* Of every call that draws: no pointer is null, and what is lent for writing overlaps nothing else that is lent.
@@ -69,12 +79,28 @@ uint32_t jengafir_draw_item(const uint32_t *row, size_t row_len, const float *it
                             uint8_t *codes, size_t codes_len, float *numbers, size_t numbers_len,
                             size_t *codes_written, size_t *numbers_written);
 
+/* Joins the sources of a merge: the commands of each, one source after the other.
+   A row is six entries: kind, hidden (0 or 1), depth, mark (for a path 0 if open and 1 if closed, for a merge its mode
+   from 0 to 255, else 0), place and count as for jengafir_draw_item. The first row is at depth 0. A row is at most one
+   deeper than the row before it, and deeper only where that is a group, which it then is in.
+   The merge is the first visible row of kind mm and mode 1 at depth 0. At depth 0, the visible rows before it are
+   sources (sh, rc, el, sr), tr, and empty groups, with two sources or more; those after it are fl, st, gf, gs, tr, tm,
+   rp, and mm with nothing but hidden rows, empty groups and tr between it and the visible mm before it. A group is
+   empty if each row directly in it is hidden, a tr, or an empty group.
+   Reads the first 6 * row_count entries of `rows`, 1 to 256 rows, and of `items` the numbers of the sources alone.
+   Refuses, by the first of these that holds: 1 for no rows; 2 for more than 256; 12 for a row list that is too short;
+   2 for a depth over 8; 4 for an entry of a row; 6 for the nesting; 7 if there is no such merge. Then the first faulty
+   source counts, by 5, 1, 2, 12, 3 as for jengafir_draw_item. The last is 11. */
+uint32_t jengafir_merge(const uint32_t *rows, size_t rows_len, size_t row_count, const float *items, size_t items_len,
+                        uint8_t *codes, size_t codes_len, float *numbers, size_t numbers_len,
+                        size_t *codes_written, size_t *numbers_written);
+
 /* Of every call that reads a command list: the list is its codes and the numbers of all its commands, in order. No
    pointer is null, and a place that is lent for writing overlaps nothing else that is lent.
    A list has at most 262,144 commands, and every number is at most 4,194,304 in absolute value; an empty list is
    legal. A list is refused with 2 if it is longer; else by its first faulty command, with 4 for its code, 12 if the
-   list has not all of its numbers, or 3; and else with 12 if numbers are left over. What jengafir_draw_path and
-   jengafir_draw_item write is never refused. */
+   list has not all of its numbers, or 3; and else with 12 if numbers are left over. What jengafir_draw_path,
+   jengafir_draw_item and jengafir_merge write is never refused. */
 
 /* Puts the length of a path down in `length`: 32 chords a cubic, 24 a quad, and a close back to where its contour
    started. Without a point to come from, a line or a curve adds nothing; it sets the point, and its contour has no
