@@ -86,20 +86,26 @@ fn path_answer(closed: u32, vertices: &[f32], count: usize) -> Result<Path, u32>
     Ok(bezier_path(closed, vertices))
 }
 
-/// The checks of one row to be drawn in document 01's order: 4, 5, 1, 2, 12, 3.
+/// The checks of one row to be drawn in document 01's order: 4, then those of a source.
 fn item_answer(row: &[u32], numbers: &[f32]) -> Result<Path, u32> {
     let &[kind, hidden, _, mark, place, count, ..] = row else { return Err(12) };
     let is_path = kind == SH;
     check((1..=4).contains(&kind) && hidden <= 1, 4)?;
     check(if is_path { mark <= 1 } else { mark == 0 && count == 0 }, 4)?;
+    let numbers = source_numbers(kind, place, count, numbers)?;
+    Ok(if is_path { bezier_path(mark, numbers) } else { rect_path(numbers) })
+}
+
+/// The numbers of a source, after its checks in document 01's order: 5, 1, 2, 12, 3.
+pub fn source_numbers(kind: u32, place: u32, count: u32, numbers: &[f32]) -> Result<&[f32], u32> {
     check(kind <= RC, 5)?;
-    check(!is_path || count != 0, 1)?;
+    check(kind != SH || count != 0, 1)?;
     check(count as usize <= MOST_VERTICES, 2)?;
     let place = place as usize;
-    let needed = if is_path { 6 * count as usize } else { 5 };
+    let needed = if kind == SH { 6 * count as usize } else { 5 };
     let numbers = numbers.get(place..place + needed).ok_or(12u32)?;
     check(all_within(numbers), 3)?;
-    Ok(if is_path { bezier_path(mark, numbers) } else { rect_path(numbers) })
+    Ok(numbers)
 }
 
 pub fn check(holds: bool, refusal: u32) -> Result<(), u32> {
@@ -111,29 +117,37 @@ fn all_within(numbers: &[f32]) -> bool {
 }
 
 fn bezier_path(closed: u32, vertices: &[f32]) -> Path {
+    source::bezier_path(&vertex_list(closed, vertices)).unwrap()
+}
+
+pub fn vertex_list(closed: u32, vertices: &[f32]) -> BezierPath {
     let vertices = vertices.chunks(6).map(|v| BezierVertex {
         vertex: [v[0], v[1]],
         in_tangent: [v[2], v[3]],
         out_tangent: [v[4], v[5]],
     });
-    source::bezier_path(&BezierPath { closed: closed == 1, vertices: vertices.collect() }).unwrap()
+    BezierPath { closed: closed == 1, vertices: vertices.collect() }
 }
 
 fn rect_path(numbers: &[f32]) -> Path {
-    let item = ShapeItem {
+    source::rect_path(&rectangle(numbers)).unwrap()
+}
+
+pub fn rectangle(numbers: &[f32]) -> ShapeItem {
+    ShapeItem {
         position: Some([numbers[0], numbers[1]]),
         size: Some([numbers[2], numbers[3]]),
         roundness: Some(numbers[4]),
-    };
-    source::rect_path(&item).unwrap()
+        ..ShapeItem::default()
+    }
 }
 
 // The comparison.
 
 /// All that a call leaves behind. The lists are the buffers and a few places past what is lent.
 #[derive(PartialEq)]
-struct Outcome {
-    refusal: u32,
+pub struct Outcome {
+    pub refusal: u32,
     written: [usize; 2],
     codes: Vec<u8>,
     numbers: Vec<u32>,
@@ -144,7 +158,7 @@ const PAST: usize = 4;
 
 impl Outcome {
     /// Before the call: each place has content of its own, which no answer has.
-    fn before(lengths: [usize; 2]) -> Outcome {
+    pub fn before(lengths: [usize; 2]) -> Outcome {
         Outcome {
             refusal: u32::MAX,
             written: [usize::MAX; 2],
@@ -154,7 +168,7 @@ impl Outcome {
     }
 
     /// What is to be left behind where this is answered: the answer, if it fits.
-    fn theirs(answer: &Result<Path, u32>, lengths: [usize; 2]) -> Outcome {
+    pub fn theirs(answer: &Result<Path, u32>, lengths: [usize; 2]) -> Outcome {
         let mut outcome = Outcome { refusal: 11, written: [0, 0], ..Outcome::before(lengths) };
         match answer {
             Err(refusal) => outcome.refusal = *refusal,
@@ -171,51 +185,55 @@ impl Outcome {
         outcome
     }
 
-    fn ours(input: &Input, lengths: [usize; 2]) -> Outcome {
+    /// What a call leaves behind that is lent two buffers and the places of the counts.
+    pub fn ours(lengths: [usize; 2], call: impl FnOnce(*mut u8, *mut f32, *mut usize, *mut usize) -> u32) -> Outcome {
         let mut outcome = Outcome::before(lengths);
-        let codes = outcome.codes.as_mut_ptr();
-        let numbers = outcome.numbers.as_mut_ptr().cast();
         let [codes_written, numbers_written] = &mut outcome.written;
-        let [codes_len, numbers_len] = lengths;
-        outcome.refusal = match input {
-            Input::Path { closed, vertices, count } => unsafe {
-                jengafir_draw_path(
-                    *closed,
-                    vertices.as_ptr(),
-                    vertices.len(),
-                    *count,
-                    codes,
-                    codes_len,
-                    numbers,
-                    numbers_len,
-                    codes_written,
-                    numbers_written,
-                )
-            },
-            Input::Item { row, numbers: items } => unsafe {
-                jengafir_draw_item(
-                    row.as_ptr(),
-                    row.len(),
-                    items.as_ptr(),
-                    items.len(),
-                    codes,
-                    codes_len,
-                    numbers,
-                    numbers_len,
-                    codes_written,
-                    numbers_written,
-                )
-            },
-        };
+        let numbers = outcome.numbers.as_mut_ptr().cast();
+        outcome.refusal = call(outcome.codes.as_mut_ptr(), numbers, codes_written, numbers_written);
         outcome
     }
+}
+
+fn called(input: &Input, lengths: [usize; 2]) -> Outcome {
+    let [codes_len, numbers_len] = lengths;
+    Outcome::ours(lengths, |codes, numbers, codes_written, numbers_written| match input {
+        Input::Path { closed, vertices, count } => unsafe {
+            jengafir_draw_path(
+                *closed,
+                vertices.as_ptr(),
+                vertices.len(),
+                *count,
+                codes,
+                codes_len,
+                numbers,
+                numbers_len,
+                codes_written,
+                numbers_written,
+            )
+        },
+        Input::Item { row, numbers: items } => unsafe {
+            jengafir_draw_item(
+                row.as_ptr(),
+                row.len(),
+                items.as_ptr(),
+                items.len(),
+                codes,
+                codes_len,
+                numbers,
+                numbers_len,
+                codes_written,
+                numbers_written,
+            )
+        },
+    })
 }
 
 fn judge(random: &mut Random, report: &mut Report, outcomes: &mut Outcomes, input: &Input) {
     let answer = answer(input);
     let lengths = lengths(random, &answer);
     let theirs = Outcome::theirs(&answer, lengths);
-    let ours = Outcome::ours(input, lengths);
+    let ours = called(input, lengths);
     outcomes[theirs.refusal as usize] += 1;
     report.count(ours == theirs, || {
         format!("{}, buffers of {lengths:?}: {}", shown_input(input), shown_difference(&ours, &theirs))
@@ -223,7 +241,7 @@ fn judge(random: &mut Random, report: &mut Report, outcomes: &mut Outcomes, inpu
 }
 
 /// The lengths of the buffers: ample, exactly full, one short, or empty.
-fn lengths(random: &mut Random, answer: &Result<Path, u32>) -> [usize; 2] {
+pub fn lengths(random: &mut Random, answer: &Result<Path, u32>) -> [usize; 2] {
     let [codes, numbers] = match answer {
         Ok(path) => [path.codes.len(), path.numbers.len()],
         Err(_) => [random.between(0, 8) as usize, random.between(0, 20) as usize],
@@ -256,7 +274,7 @@ pub fn shown_list(list: &[f32]) -> String {
     format!("{} numbers ({}{rest})", list.len(), first.join(" "))
 }
 
-fn shown_difference(ours: &Outcome, theirs: &Outcome) -> String {
+pub fn shown_difference(ours: &Outcome, theirs: &Outcome) -> String {
     let mut shown = format!("ours {} {:?}, theirs {} {:?}", ours.refusal, ours.written, theirs.refusal, theirs.written);
     if let Some(i) = (0..ours.codes.len()).find(|&i| ours.codes[i] != theirs.codes[i]) {
         shown += &format!("; code {i} is {}, not {}", ours.codes[i], theirs.codes[i]);

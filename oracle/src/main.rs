@@ -8,12 +8,16 @@ mod length;
 #[cfg(drawing)]
 mod lists;
 #[cfg(drawing)]
+mod merge;
+#[cfg(drawing)]
 mod plate;
 mod random;
 #[cfg(drawing)]
 mod repeater;
 mod report;
 mod root;
+#[cfg(drawing)]
+mod rows;
 #[cfg(drawing)]
 mod shapes;
 #[cfg(drawing)]
@@ -29,6 +33,8 @@ const PARTS: &[Part] = &[
     float::compare,
     #[cfg(drawing)]
     draw::compare,
+    #[cfg(drawing)]
+    merge::compare,
     #[cfg(drawing)]
     length::compare,
     #[cfg(drawing)]

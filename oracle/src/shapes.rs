@@ -93,7 +93,7 @@ fn tangent(random: &mut Random, kind: Kind, x: f32, straight: bool) -> f32 {
     }
 }
 
-fn any_vertices(random: &mut Random, count: usize) -> Vec<f32> {
+pub fn any_vertices(random: &mut Random, count: usize) -> Vec<f32> {
     let kind = any_kind(random);
     let straight = random.bits(1) == 0;
     let mut vertices = Vec::with_capacity(6 * count + 8);
@@ -109,7 +109,7 @@ fn any_vertices(random: &mut Random, count: usize) -> Vec<f32> {
 }
 
 /// A rectangle's five numbers, with a roundness around 0, 2^-23, half the smaller side, or any.
-fn any_rectangle(random: &mut Random) -> Vec<f32> {
+pub fn any_rectangle(random: &mut Random) -> Vec<f32> {
     let kind = any_kind(random);
     let mut numbers: Vec<f32> = (0..4).map(|_| number(random, kind)).collect();
     let half = numbers[2].abs().min(numbers[3].abs()) / 2.0;
@@ -138,13 +138,13 @@ fn any_count(random: &mut Random) -> usize {
 }
 
 /// Numbers that are not to be read, of any kind.
-fn unread(random: &mut Random) -> Vec<f32> {
+pub fn unread(random: &mut Random) -> Vec<f32> {
     let count = random.between(0, 8);
     (0..count).map(|_| if random.bits(1) == 0 { refused(random) } else { random.float() }).collect()
 }
 
 /// A number other than 0 and 1, whose low bits may be 0 or 1.
-fn wrong_flag(random: &mut Random) -> u32 {
+pub fn wrong_flag(random: &mut Random) -> u32 {
     match random.bits(2) {
         0 => 2,
         1 => 256 << random.bits(4),
@@ -159,7 +159,7 @@ fn damaged(random: &mut Random, damage: bool) -> bool {
 }
 
 /// Puts a number that is refused first, last or anywhere.
-fn spoil(random: &mut Random, numbers: &mut [f32]) {
+pub fn spoil(random: &mut Random, numbers: &mut [f32]) {
     let at = match random.bits(2) {
         0 => 0,
         1 => numbers.len() - 1,

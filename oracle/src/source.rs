@@ -1,4 +1,4 @@
-//! The Rust's own functions for drawing, measuring, trimming and repeating, cut by name out of its text, over stand-ins as document 01 has them.
+//! The Rust's own functions for drawing, merging, measuring, trimming and repeating, cut by name out of its text, over stand-ins as document 01 has them.
 
 mod root;
 
@@ -228,16 +228,39 @@ impl RenderTransform {
     }
 }
 
-/// A rectangle's numbers, sampled already.
+/// An item, sampled already, and the row that it comes from.
+#[derive(Default)]
 pub struct ShapeItem {
+    pub item_type: String,
+    pub hidden: bool,
+    pub items: Vec<ShapeItem>,
+    /// The mode of a merge; 0 stands for none.
+    pub mode: u8,
+    pub path: Option<BezierPath>,
     pub position: Option<[f32; 2]>,
     pub size: Option<[f32; 2]>,
     pub roundness: Option<f32>,
+    pub row: usize,
 }
 
 impl ShapeItem {
     fn rectangle_roundness(&self) -> Option<f32> {
         self.roundness
+    }
+
+    fn merge_mode(&self) -> Option<u8> {
+        (self.mode != 0).then_some(self.mode)
+    }
+}
+
+/// Has a path for every source, which is a move to the number of its row.
+struct StaticPathCache;
+
+impl StaticPathCache {
+    fn path(&self, item: &ShapeItem) -> Path {
+        let mut builder = PathBuilder::new();
+        builder.move_to(item.row as f32, 0.0);
+        builder.0
     }
 }
 
@@ -305,13 +328,40 @@ mod drawing_paths {
     use crate::exact::distance;
     use crate::values::{position_vec2_at, scalar_at, vec2_at};
     use crate::{BezierPath, Path, PathBuilder, PathSegment, Rect, ShapeItem, TinyStrokeDash, TrimStyle};
-    use crate::{PixmapTransform, RenderTransform, RepeaterStyle};
+    use crate::{PixmapTransform, RenderTransform, RepeaterStyle, StaticPathCache};
     use std::mem;
+    use std::rc::Rc;
 
     include!("../../target/oracle/rust_text.rs");
 
     pub fn rect_path(item: &ShapeItem) -> Option<Path> {
         build_rect_path(item, 0.0, None)
+    }
+
+    /// Hands over the cache's path, where there is a cache, and else draws a path or a rectangle.
+    fn build_shape_source_path(
+        item: &ShapeItem,
+        frame: f32,
+        static_path_cache: Option<&StaticPathCache>,
+        timeline_sample_cache: Option<&super::sample_cache::TimelineSampleCache>,
+    ) -> Option<Rc<Path>> {
+        if let Some(cache) = static_path_cache {
+            return Some(Rc::new(cache.path(item)));
+        }
+        match item.item_type.as_str() {
+            "rc" => build_rect_path(item, frame, timeline_sample_cache).map(Rc::new),
+            "sh" => build_bezier_path(item.path.as_ref()?).map(Rc::new),
+            _ => None,
+        }
+    }
+
+    pub fn joined_rows(items: &[ShapeItem]) -> Option<Vec<usize>> {
+        let path = build_supported_merge_path(items, 0.0, Some(&StaticPathCache), None, None)?;
+        Some(path.numbers.chunks(2).map(|point| point[0] as usize).collect())
+    }
+
+    pub fn merged_path(items: &[ShapeItem]) -> Option<Path> {
+        build_supported_merge_path(items, 0.0, None, None, None)
     }
 
     pub fn path_length(path: &Path) -> f32 {
@@ -345,6 +395,16 @@ pub fn bezier_path(path: &BezierPath) -> Option<Path> {
 /// The path of a rectangle.
 pub fn rect_path(item: &ShapeItem) -> Option<Path> {
     drawing_paths::rect_path(item)
+}
+
+/// The rows that a merge joins, whether or not each can be drawn; none where nothing is merged.
+pub fn joined_rows(items: &[ShapeItem]) -> Option<Vec<usize>> {
+    drawing_paths::joined_rows(items)
+}
+
+/// The path of a merge whose sources are paths and rectangles that can be drawn; none where nothing is merged.
+pub fn merged_path(items: &[ShapeItem]) -> Option<Path> {
+    drawing_paths::merged_path(items)
 }
 
 /// The length of a path.

@@ -1,0 +1,321 @@
+//! Compares merges: the Rust's own functions, under document 01's refusals, against ours.
+
+use crate::draw::{check, lengths, rectangle, shown_difference, shown_list, source_numbers, vertex_list, Outcome};
+use crate::random::Random;
+use crate::report::{Outcomes, Report};
+use crate::rows::{altered, any_list, List, Row, Stock, EL, GR, MM, MOST_DEPTH, MOST_ROWS, OTHER};
+use crate::shapes::{MOST_VERTICES, RC, SH};
+use source::{Path, ShapeItem};
+use std::rc::Rc;
+
+extern "C" {
+    fn jengafir_merge(
+        rows: *const u32,
+        rows_len: usize,
+        row_count: usize,
+        items: *const f32,
+        items_len: usize,
+        codes: *mut u8,
+        codes_len: usize,
+        numbers: *mut f32,
+        numbers_len: usize,
+        codes_written: *mut usize,
+        numbers_written: *mut usize,
+    ) -> u32;
+}
+
+/// So many lists are made of one stock of numbers.
+const LISTS_OF_A_STOCK: usize = 256;
+
+pub fn compare(random: &mut Random, count: usize, report: &mut Report) {
+    let mut tally = Tally { lists: 0, joined: 0, outcomes: [0; 13] };
+    compare_short(random, report, &mut tally);
+    compare_faults(random, report, &mut tally);
+    compare_largest(random, report, &mut tally);
+    let mut stock = Stock::any(random);
+    for i in 0..count {
+        if i % LISTS_OF_A_STOCK == 0 {
+            stock = Stock::any(random);
+        }
+        let list = any_list(random, &stock);
+        judge(random, report, &mut tally, &list);
+    }
+    println!("oracle: merge joins in {} of {} lists", tally.joined, tally.lists);
+    report.outcomes.push(("merge", tally.outcomes));
+}
+
+struct Tally {
+    lists: u64,
+    /// How often sources are joined, whether or not each can be drawn and fits.
+    joined: u64,
+    outcomes: Outcomes,
+}
+
+// What the call has to answer.
+
+/// What the rows settle and what the answer is.
+struct Settled {
+    /// The rows that are joined; none where the rows are refused.
+    joined: Vec<usize>,
+    /// The path, or the refusal that comes before it is known whether the path fits.
+    answer: Result<Path, u32>,
+}
+
+fn settle(list: &List) -> Settled {
+    match joined_rows(list) {
+        Err(refusal) => Settled { joined: Vec::new(), answer: Err(refusal) },
+        Ok((rows, joined)) => {
+            let answer = merged_path(&rows, &joined, list.lent_items());
+            Settled { joined, answer }
+        }
+    }
+}
+
+/// The rows, and which of them are joined, after the checks in document 01's order: 1, 2, 12, 2, 4, 6, 7.
+fn joined_rows(list: &List) -> Result<(Vec<Row>, Vec<usize>), u32> {
+    check(list.row_count != 0, 1)?;
+    check(list.row_count <= MOST_ROWS, 2)?;
+    let entries = list.rows.get(..6 * list.row_count).ok_or(12u32)?;
+    let rows: Vec<Row> = entries.chunks(6).map(Row::of).collect();
+    check(rows.iter().all(|row| row.depth <= MOST_DEPTH), 2)?;
+    check(rows.iter().all(Row::is_listed), 4)?;
+    check(rows[0].depth == 0 && rows.windows(2).all(|pair| may_follow(&pair[0], &pair[1])), 6)?;
+    let joined = source::joined_rows(&nested(&rows, None)).ok_or(7u32)?;
+    Ok((rows, joined))
+}
+
+/// Whether a row may stand after a row: not deeper, or one deeper in a group.
+fn may_follow(before: &Row, row: &Row) -> bool {
+    row.depth <= before.depth || before.kind == GR && row.depth == before.depth + 1
+}
+
+/// The checks of each source in order, and then the path of all.
+fn merged_path(rows: &[Row], joined: &[usize], items: &[f32]) -> Result<Path, u32> {
+    for &row in joined {
+        let Row { kind, place, count, .. } = rows[row];
+        source_numbers(kind, place, count, items)?;
+    }
+    Ok(source::merged_path(&nested(rows, Some(items))).unwrap())
+}
+
+const TYPES: [&str; 14] = ["sh", "rc", "el", "sr", "gr", "tr", "fl", "st", "gf", "gs", "tm", "rp", "mm", "rd"];
+
+/// The items of sound rows, a group's in it; with numbers where the sources are to be drawn.
+fn nested(rows: &[Row], numbers: Option<&[f32]>) -> Vec<ShapeItem> {
+    let mut open: Vec<Vec<ShapeItem>> = vec![Vec::new()];
+    for (i, row) in rows.iter().enumerate() {
+        close(&mut open, row.depth as usize + 1);
+        open.last_mut().unwrap().push(item(i, row, numbers));
+        open.push(Vec::new());
+    }
+    close(&mut open, 1);
+    open.pop().unwrap()
+}
+
+/// Puts the innermost items into the last item of the list around them, until so many lists are left.
+fn close(open: &mut Vec<Vec<ShapeItem>>, left: usize) {
+    while open.len() > left {
+        let items = open.pop().unwrap();
+        if let Some(group) = open.last_mut().unwrap().last_mut() {
+            group.items = items;
+        }
+    }
+}
+
+/// The item of a row. A source that cannot be drawn, since it is not to be, has no geometry.
+fn item(i: usize, row: &Row, numbers: Option<&[f32]>) -> ShapeItem {
+    let drawn = numbers.and_then(|numbers| source_numbers(row.kind, row.place, row.count, numbers).ok());
+    let mut item = match (row.kind, drawn) {
+        (RC, Some(numbers)) => rectangle(numbers),
+        (SH, Some(numbers)) => ShapeItem { path: Some(vertex_list(row.mark, numbers)), ..ShapeItem::default() },
+        _ => ShapeItem::default(),
+    };
+    item.item_type = TYPES[row.kind as usize - 1].to_string();
+    item.hidden = row.hidden == 1;
+    item.mode = if row.kind == MM { row.mark as u8 } else { 0 };
+    item.row = i;
+    item
+}
+
+// The comparison.
+
+fn called(list: &List, lengths: [usize; 2]) -> Outcome {
+    Outcome::ours(lengths, |codes, numbers, codes_written, numbers_written| unsafe {
+        jengafir_merge(
+            list.rows.as_ptr(),
+            list.rows.len(),
+            list.row_count,
+            list.items.as_ptr(),
+            list.items_len,
+            codes,
+            lengths[0],
+            numbers,
+            lengths[1],
+            codes_written,
+            numbers_written,
+        )
+    })
+}
+
+/// Compares a list, and now and then the list with all altered that is not read.
+fn judge(random: &mut Random, report: &mut Report, tally: &mut Tally, list: &List) {
+    let settled = settle(list);
+    let lengths = lengths(random, &settled.answer);
+    let theirs = Outcome::theirs(&settled.answer, lengths);
+    tally.lists += 1;
+    tally.joined += u64::from(!settled.joined.is_empty());
+    tally.outcomes[theirs.refusal as usize] += 1;
+    expect(report, list, lengths, &theirs);
+    if random.bits(2) == 0 {
+        let mut list = altered(random, list);
+        expect(report, &list, lengths, &theirs);
+        if random.bits(3) == 0 {
+            spoil_unread(random, &mut list, &settled.joined);
+            expect(report, &list, lengths, &theirs);
+        }
+    }
+}
+
+fn expect(report: &mut Report, list: &List, lengths: [usize; 2], theirs: &Outcome) {
+    let ours = called(list, lengths);
+    report.count(ours == *theirs, || {
+        let rows: Vec<String> = list.rows.chunks(6).take(16).map(|row| format!("{row:?}")).collect();
+        let rest = if list.rows.len() > 6 * 16 { " .." } else { "" };
+        let items = shown_list(list.lent_items());
+        let shown = format!("merge of {} rows in {}{rest}, {items}", list.row_count, rows.join(" "));
+        format!("{shown}, buffers of {lengths:?}: {}", shown_difference(&ours, theirs))
+    });
+}
+
+/// Puts anything in the place of each number that is no joined source's.
+fn spoil_unread(random: &mut Random, list: &mut List, joined: &[usize]) {
+    let mut read = vec![false; list.items.len()];
+    for &i in joined {
+        let row = Row::of(&list.rows[6 * i..6 * i + 6]);
+        let needed = if row.kind == SH { 6 * row.count as usize } else { 5 };
+        let start = (row.place as usize).min(read.len());
+        let end = start.saturating_add(needed).min(read.len());
+        read[start..end].fill(true);
+    }
+    let spoiled = list.items.iter().zip(read).map(|(&x, read)| if read { x } else { random.float() });
+    list.items = Rc::new(spoiled.collect());
+}
+
+// Every short list.
+
+/// Every row of a kind, with both modes for mm, hidden or not, at two depths from this one on.
+fn every_row(depth: u32) -> Vec<Row> {
+    let mut rows = Vec::new();
+    for kind in SH..=OTHER {
+        for hidden in [0, 1] {
+            for depth in [depth, depth + 1] {
+                let marks = if kind == MM { vec![1, 2] } else { vec![0] };
+                rows.extend(marks.into_iter().map(|mark| Row::new(kind, hidden, depth, mark)));
+            }
+        }
+    }
+    rows
+}
+
+/// Every list of up to three rows: alone, after a merge, before the two sources of a merge, and in a group there.
+fn compare_short(random: &mut Random, report: &mut Report, tally: &mut Tally) {
+    let items: Rc<Vec<f32>> = Rc::new((0..80).map(|i| (i * i % 97) as f32 * 0.75 - 20.0).collect());
+    let merge = [Row::new(RC, 0, 0, 0), Row::new(SH, 0, 0, 0), Row::new(MM, 0, 0, 1)];
+    let group = [Row::new(GR, 0, 0, 0)];
+    let surroundings: [(&[Row], u32, &[Row]); 4] = [(&[], 0, &[]), (&merge, 0, &[]), (&[], 0, &merge), (&group, 1, &merge)];
+    for (before, depth, after) in surroundings {
+        for_each_short(&every_row(depth), |rows| {
+            let mut rows = [before, rows, after].concat();
+            rows.iter_mut().enumerate().for_each(|(i, row)| locate(i as u32, row));
+            if !rows.is_empty() {
+                judge(random, report, tally, &List::new(&rows, &items));
+            }
+        });
+    }
+}
+
+/// Gives a source numbers of its own.
+fn locate(i: u32, row: &mut Row) {
+    row.place = if row.is_source() { 7 * i } else { 0 };
+    if row.kind == SH {
+        row.mark = i % 2;
+        row.count = 1 + i % 3;
+    }
+}
+
+fn for_each_short(every: &[Row], mut f: impl FnMut(&[Row])) {
+    f(&[]);
+    for &a in every {
+        f(&[a]);
+        for &b in every {
+            f(&[a, b]);
+            every.iter().for_each(|&c| f(&[a, b, c]));
+        }
+    }
+}
+
+// Faults, two and more at once.
+
+/// What may be wrong with a source, in the order in which it counts.
+const SOURCE_FAULTS: [fn(&mut Row); 6] = [
+    |_| {},
+    |row| *row = Row::new(EL, 0, 0, 0),
+    |row| row.count = 0,
+    |row| row.count = MOST_VERTICES as u32 + 1,
+    |row| row.place = 1_000,
+    |row| row.place = 8,
+];
+
+/// What may be wrong with the rows.
+const LIST_FAULTS: [fn(&mut List); 12] = [
+    |_| {},
+    |list| list.row_count = 0,
+    |list| list.row_count = MOST_ROWS + 1,
+    |list| list.row_count = usize::MAX / 3,
+    |list| list.rows.truncate(6 * 4 - 1),
+    |list| list.rows[2] = MOST_DEPTH + 1,
+    |list| list.rows[6 * 3 + 2] = MOST_DEPTH + 1,
+    |list| list.rows[1] = 2,
+    |list| list.rows[6 * 3 + 3] = 1,
+    |list| list.rows[2] = 1,
+    |list| list.rows[6 * 3 + 2] = 1,
+    |list| list.rows[6 * 2 + 3] = 2,
+];
+
+/// Every two faults of sources together with every two of the rows, in ample buffers and in short ones.
+fn compare_faults(random: &mut Random, report: &mut Report, tally: &mut Tally) {
+    // The number at 8 is the first that is not finite; the sources have theirs before it.
+    let items: Rc<Vec<f32>> = Rc::new((0..40).map(|i| if i < 8 || i > 20 { i as f32 } else { f32::NAN }).collect());
+    let sound = [Row { count: 1, ..Row::new(SH, 0, 0, 1) }, Row { place: 21, count: 3, ..Row::new(SH, 0, 0, 0) }];
+    for first in SOURCE_FAULTS {
+        for second in SOURCE_FAULTS {
+            let mut rows = [sound[0], sound[1], Row::new(MM, 0, 0, 1), Row::new(7, 0, 0, 0)];
+            first(&mut rows[0]);
+            second(&mut rows[1]);
+            for one in LIST_FAULTS {
+                for other in LIST_FAULTS {
+                    let mut list = List::new(&rows, &items);
+                    one(&mut list);
+                    other(&mut list);
+                    for _ in 0..8 {
+                        judge(random, report, tally, &list);
+                    }
+                }
+            }
+        }
+    }
+}
+
+/// The most sources of the most vertices, and one row more.
+fn compare_largest(random: &mut Random, report: &mut Report, tally: &mut Tally) {
+    let items: Rc<Vec<f32>> = Rc::new((0..6 * MOST_VERTICES).map(|i| (i * i % 8191) as f32).collect());
+    let source = Row { count: MOST_VERTICES as u32, ..Row::new(SH, 0, 0, 1) };
+    let mut rows = vec![source; MOST_ROWS];
+    rows[MOST_ROWS - 1] = Row::new(MM, 0, 0, 1);
+    let list = List::new(&rows, &items);
+    for _ in 0..3 {
+        judge(random, report, tally, &list);
+    }
+    rows.push(Row::new(7, 0, 0, 0));
+    judge(random, report, tally, &List::new(&rows, &items));
+}
