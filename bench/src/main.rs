@@ -5,6 +5,8 @@ mod draw;
 #[cfg(drawing)]
 mod length;
 #[cfg(drawing)]
+mod merge;
+#[cfg(drawing)]
 mod repeater;
 #[cfg(drawing)]
 mod trim;
@@ -71,6 +73,7 @@ fn main() {
     #[cfg(drawing)]
     {
         draw::run();
+        merge::run();
         length::run();
         trim::run();
         repeater::run();

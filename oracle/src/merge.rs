@@ -222,7 +222,8 @@ fn compare_short(random: &mut Random, report: &mut Report, tally: &mut Tally) {
     let items: Rc<Vec<f32>> = Rc::new((0..80).map(|i| (i * i % 97) as f32 * 0.75 - 20.0).collect());
     let merge = [Row::new(RC, 0, 0, 0), Row::new(SH, 0, 0, 0), Row::new(MM, 0, 0, 1)];
     let group = [Row::new(GR, 0, 0, 0)];
-    let surroundings: [(&[Row], u32, &[Row]); 4] = [(&[], 0, &[]), (&merge, 0, &[]), (&[], 0, &merge), (&group, 1, &merge)];
+    let surroundings: [(&[Row], u32, &[Row]); 4] =
+        [(&[], 0, &[]), (&merge, 0, &[]), (&[], 0, &merge), (&group, 1, &merge)];
     for (before, depth, after) in surroundings {
         for_each_short(&every_row(depth), |rows| {
             let mut rows = [before, rows, after].concat();

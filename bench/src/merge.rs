@@ -1,0 +1,141 @@
+//! Times merges, through the C interface, against the Rust's own function over its stand-ins.
+
+use crate::unit_numbers;
+use source::{BezierPath, BezierVertex, ShapeItem};
+use std::hint::black_box;
+use std::time::Instant;
+
+extern "C" {
+    fn jengafir_merge(
+        rows: *const u32,
+        rows_len: usize,
+        row_count: usize,
+        items: *const f32,
+        items_len: usize,
+        codes: *mut u8,
+        codes_len: usize,
+        numbers: *mut f32,
+        numbers_len: usize,
+        codes_written: *mut usize,
+        numbers_written: *mut usize,
+    ) -> u32;
+}
+
+const SH: u32 = 1;
+const RC: u32 = 2;
+const MM: u32 = 13;
+const VERTICES: usize = 100;
+/// So many merges that no processor remembers which segments are lines.
+const MERGES: usize = 64;
+const ROUNDS: usize = 100;
+/// No merge here has more codes or numbers.
+const MOST_CODES: usize = 1_100;
+const MOST_NUMBERS: usize = 6_200;
+
+/// A merge, in the form of either side.
+struct Merge {
+    rows: Vec<u32>,
+    numbers: Vec<f32>,
+    items: Vec<ShapeItem>,
+}
+
+impl Merge {
+    /// So many sources and the merge after them; `source` appends the numbers of each and gives its item.
+    fn new(kind: u32, count: usize, mut source: impl FnMut(&mut Vec<f32>) -> ShapeItem) -> Merge {
+        let mut merge = Merge { rows: Vec::new(), numbers: Vec::new(), items: Vec::new() };
+        let [closed, vertices] = if kind == SH { [1, VERTICES as u32] } else { [0, 0] };
+        for _ in 0..count {
+            merge.rows.extend([kind, 0, 0, closed, merge.numbers.len() as u32, vertices]);
+            merge.items.push(source(&mut merge.numbers));
+        }
+        merge.rows.extend([MM, 0, 0, 1, 0, 0]);
+        merge.items.push(ShapeItem { item_type: "mm".to_string(), mode: 1, ..ShapeItem::default() });
+        merge
+    }
+}
+
+/// Rectangles from -4096 to 4096, up to 512 in size, with this part of half their smaller side as roundness.
+fn rectangles(unit: &mut impl FnMut() -> f32, roundness: f32) -> Merge {
+    Merge::new(RC, 100, |numbers| {
+        let [x, y, width, height] = [unit() * 4096.0, unit() * 4096.0, 260.0 + unit() * 252.0, 260.0 + unit() * 252.0];
+        let roundness = width.min(height) * 0.5 * roundness;
+        numbers.extend([x, y, width, height, roundness]);
+        ShapeItem {
+            item_type: "rc".to_string(),
+            position: Some([x, y]),
+            size: Some([width, height]),
+            roundness: Some(roundness),
+            ..ShapeItem::default()
+        }
+    })
+}
+
+/// Closed paths of vertices from -4096 to 4096 with tangents up to 512.
+fn paths(unit: &mut impl FnMut() -> f32) -> Merge {
+    Merge::new(SH, 10, |numbers| {
+        let start = numbers.len();
+        numbers.extend((0..6 * VERTICES).map(|i| unit() * if i % 6 < 2 { 4096.0 } else { 512.0 }));
+        let vertices = numbers[start..].chunks(6).map(|v| BezierVertex {
+            vertex: [v[0], v[1]],
+            in_tangent: [v[2], v[3]],
+            out_tangent: [v[4], v[5]],
+        });
+        let path = BezierPath { closed: true, vertices: vertices.collect() };
+        ShapeItem { item_type: "sh".to_string(), path: Some(path), ..ShapeItem::default() }
+    })
+}
+
+/// Merges with ours, and gives how many numbers were written.
+fn ours(merge: &Merge, codes: &mut [u8], numbers: &mut [f32]) -> usize {
+    let mut written = [0; 2];
+    let [codes_written, numbers_written] = &mut written;
+    let refusal = unsafe {
+        jengafir_merge(
+            merge.rows.as_ptr(),
+            merge.rows.len(),
+            merge.rows.len() / 6,
+            merge.numbers.as_ptr(),
+            merge.numbers.len(),
+            codes.as_mut_ptr(),
+            codes.len(),
+            numbers.as_mut_ptr(),
+            numbers.len(),
+            codes_written,
+            numbers_written,
+        )
+    };
+    assert_eq!(refusal, 0);
+    written[1]
+}
+
+/// Nanoseconds a merge for f, over all merges, and how many numbers were written.
+fn time(merges: &[Merge], mut f: impl FnMut(&Merge) -> usize) -> (f64, usize) {
+    let start = Instant::now();
+    let mut sum = 0;
+    for merge in black_box(merges) {
+        sum += f(merge);
+    }
+    (start.elapsed().as_nanos() as f64 / MERGES as f64, black_box(sum))
+}
+
+pub fn run() {
+    println!("ns a merge   ours    Rust   ratio");
+    let mut unit = unit_numbers();
+    let merges: [(&str, Vec<Merge>); 3] = [
+        ("100 plain", (0..MERGES).map(|_| rectangles(&mut unit, 0.0)).collect()),
+        ("100 round", (0..MERGES).map(|_| rectangles(&mut unit, 0.5)).collect()),
+        ("10 paths", (0..MERGES).map(|_| paths(&mut unit)).collect()),
+    ];
+    for (name, merges) in merges {
+        let mut codes = [0; MOST_CODES];
+        let mut numbers = [0.0; MOST_NUMBERS];
+        let mut best = [f64::INFINITY; 2];
+        for _ in 0..ROUNDS {
+            let (ours, written) = time(&merges, |m| ours(m, &mut codes, black_box(&mut numbers)));
+            let (theirs, expected) = time(&merges, |m| black_box(source::merged_path(&m.items)).unwrap().numbers.len());
+            assert_eq!(written, expected);
+            best = [best[0].min(ours), best[1].min(theirs)];
+        }
+        println!("{name:10}{:7.0} {:7.0} {:7.2}", best[0], best[1], best[0] / best[1]);
+    }
+}
