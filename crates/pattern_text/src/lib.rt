@@ -145,3 +145,35 @@ pub fn print_refusal(number: u32) {
     io::print_decimal(STDOUT_FILENO, wide(number));
     io::write_all(STDOUT_FILENO, b"\n");
 }
+
+fn wide_byte(x: u8) -> u64 {
+    x as u64
+}
+
+// Writes what a buffer of codes holds, on a line.
+pub fn print_codes(codes: &[u8]) {
+    io::write_all(STDOUT_FILENO, b"codes");
+    let mut i = 0;
+    while i < codes.len() {
+        io::write_all(STDOUT_FILENO, b" ");
+        io::print_hex(STDOUT_FILENO, wide_byte(codes[i]), 2);
+        i += 1;
+    }
+    io::write_all(STDOUT_FILENO, b"\n");
+}
+
+// Writes what a buffer of numbers holds, on a line.
+pub fn print_numbers(numbers: &[f32]) {
+    io::write_all(STDOUT_FILENO, b"numbers");
+    print_list(numbers);
+    io::write_all(STDOUT_FILENO, b"\n");
+}
+
+// Writes how many codes and numbers a call has written.
+pub fn print_written(codes: usize, numbers: usize) {
+    io::write_all(STDOUT_FILENO, b"written ");
+    print_decimal(codes);
+    io::write_all(STDOUT_FILENO, b" ");
+    print_decimal(numbers);
+    io::write_all(STDOUT_FILENO, b"\n");
+}

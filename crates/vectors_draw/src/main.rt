@@ -5,43 +5,14 @@ use command::Drawn;
 use libc::STDIN_FILENO;
 use libc::STDOUT_FILENO;
 
-fn wide_byte(x: u8) -> u64 {
-    x as u64
-}
-
-fn print_codes(codes: &[u8]) {
-    io::write_all(STDOUT_FILENO, b"codes");
-    let mut i = 0;
-    while i < codes.len() {
-        io::write_all(STDOUT_FILENO, b" ");
-        io::print_hex(STDOUT_FILENO, wide_byte(codes[i]), 2);
-        i += 1;
-    }
-    io::write_all(STDOUT_FILENO, b"\n");
-}
-
-fn print_numbers(numbers: &[f32]) {
-    io::write_all(STDOUT_FILENO, b"numbers");
-    pattern_text::print_list(numbers);
-    io::write_all(STDOUT_FILENO, b"\n");
-}
-
-fn print_written(codes: usize, numbers: usize) {
-    io::write_all(STDOUT_FILENO, b"written ");
-    pattern_text::print_decimal(codes);
-    io::write_all(STDOUT_FILENO, b" ");
-    pattern_text::print_decimal(numbers);
-    io::write_all(STDOUT_FILENO, b"\n");
-}
-
 // Writes the answer of a call, and what the buffers hold after it.
 fn print_drawn(drawn: Drawn, codes: &[u8], numbers: &[f32]) {
     match drawn {
         Drawn::Refused(refusal) => pattern_text::print_refusal(command::refusal_number(refusal)),
-        Drawn::Written(n, m) => print_written(n, m),
+        Drawn::Written(n, m) => pattern_text::print_written(n, m),
     }
-    print_codes(codes);
-    print_numbers(numbers);
+    pattern_text::print_codes(codes);
+    pattern_text::print_numbers(numbers);
 }
 
 fn draw_path(line: &[u8], vertices: &[f32], codes: &mut [u8], numbers: &mut [f32]) {

@@ -1,9 +1,9 @@
--- `vectors_draw::print_codes` is safe and ends. The measure is how many codes are left. Assumes nothing.
+-- `pattern_text::print_codes` is safe and ends. The measure is how many codes are left. Assumes nothing.
 use Prim.Native.Nat.{_-_}
 use lib.ListN.{length}
 use borrow.Author.Needs.{needs}
-use Rattle.vectors_draw.proofs.print_codes.Statement.{statement}
-use Rattle.vectors_draw.proofs.print_codes.Tie as tie
+use Rattle.pattern_text.proofs.print_codes.Statement.{statement}
+use Rattle.pattern_text.proofs.print_codes.Tie as tie
 
 abbrev Inv-loop : tie.InvT-loop
 Inv-loop codes i₀ t4 t5 i = Unit {0}
