@@ -376,18 +376,22 @@ fn unlisted(random: &mut Random, row: Row) -> Row {
     }
 }
 
-/// The same list to a merge: what its hidden rows have, and what stands past its rows, is another.
+/// The same list to a merge, with another place and count in every row but the visible sources of depth 0, another
+/// mark in hidden rows, and something else past the rows.
 pub fn altered(random: &mut Random, list: &List) -> List {
     let mut list = list.clone();
     let read = list.row_count.saturating_mul(6).min(list.rows.len());
     for entries in list.rows[..read].chunks_exact_mut(6) {
         let mut row = Row::of(entries);
-        if row.hidden == 1 && row.is_listed() {
-            row.place = random.bits(32) as u32;
-            row.mark = random.bits(8) as u32 % (most_mark(row.kind) + 1);
-            row.count = if row.kind == SH { random.bits(32) as u32 } else { 0 };
-            entries.copy_from_slice(&row.entries());
+        if !row.is_listed() || is_joinable(&row) {
+            continue;
         }
+        row.place = random.bits(32) as u32;
+        row.count = if row.kind == SH { random.bits(32) as u32 } else { 0 };
+        if row.hidden == 1 {
+            row.mark = random.bits(8) as u32 % (most_mark(row.kind) + 1);
+        }
+        entries.copy_from_slice(&row.entries());
     }
     if read == list.row_count.saturating_mul(6) {
         list.rows.truncate(read);
