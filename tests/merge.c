@@ -345,6 +345,33 @@ static void test_most_rows(void)
     refused("257 rows", rows[0], 6 * 257, 257, JENGAFIR_TOO_MANY);
 }
 
+/* 255 closed paths of 1,024 vertices are the longest answer, and a command list that the other calls read. */
+static void test_longest(void)
+{
+    static const uint32_t path[] = {JENGAFIR_SH, 0, 0, 1, 0, 1024}, merge[] = MERGE;
+    static uint32_t rows[256][6];
+    static float vertices[6 * 1024];
+    static uint8_t cs[255 * 1026];
+    static float xs[255 * 2050];
+    float length = OLD_NUMBER;
+    for (size_t i = 0; i < 256; i++)
+        memcpy(rows[i], i < 255 ? path : merge, sizeof path);
+    for (size_t i = 0; i < 1024; i++) {
+        vertices[6 * i] = i % 2 == 0 ? 1048576 : -1048576;
+        vertices[6 * i + 1] = (float)i;
+    }
+    uint32_t got = jengafir_merge(rows[0], COUNT(rows) * 6, COUNT(rows), vertices, COUNT(vertices), cs, COUNT(cs), xs,
+                                  COUNT(xs), &codes_written, &numbers_written);
+    uint32_t read = jengafir_length(cs, codes_written, xs, numbers_written, &length);
+    compared++;
+    if (got != JENGAFIR_ACCEPTED || codes_written != COUNT(cs) || numbers_written != COUNT(xs) ||
+        read != JENGAFIR_ACCEPTED) {
+        printf("the longest answer: %u with %zu codes and %zu numbers, of length %u\n", (unsigned)got, codes_written,
+               numbers_written, (unsigned)read);
+        wrong++;
+    }
+}
+
 int main(void)
 {
     run(joining, COUNT(joining));
@@ -353,6 +380,7 @@ int main(void)
     run(ordered, COUNT(ordered));
     test_row_numbers();
     test_most_rows();
+    test_longest();
     if (wrong != 0) {
         printf("%d of %d wrong\n", wrong, compared);
         return 1;
