@@ -74,7 +74,7 @@ uint32_t jengafir_draw_path(uint32_t closed, const float *vertices, size_t verti
    Every number is at most 1,048,576 in absolute value.
    Reads the first six entries of `row`, and of `items` the numbers of this row alone.
    Refuses a row list of fewer than six entries with 12, and then by the first of these that holds: 4 for an entry
-   of the row, 5, 1, 2, 12, 3, 11. */
+   of the row, a kind that is no shape among them, 5, 1, 2, 12, 3, 11. */
 uint32_t jengafir_draw_item(const uint32_t *row, size_t row_len, const float *items, size_t items_len,
                             uint8_t *codes, size_t codes_len, float *numbers, size_t numbers_len,
                             size_t *codes_written, size_t *numbers_written);
