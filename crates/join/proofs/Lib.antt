@@ -1,2 +1,3 @@
--- What the proofs of `join` cite.
+-- What the proofs of `join` cite: each way out of a function, and which rows are joined.
 pub mod Ways
+pub mod Joined
