@@ -1,3 +1,4 @@
--- What the proofs of `join` cite: each way out of a function, and which rows are joined.
+-- What the proofs of `join` cite: each way out of a function, which rows are joined, and that their drawing is a sound command list.
 pub mod Ways
 pub mod Joined
+pub mod Sound

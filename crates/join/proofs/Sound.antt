@@ -1,0 +1,84 @@
+-- What a merge answers is a sound command list: every number of it is within the limit of command lists, and it is no longer than such a list may be. Assumes nothing.
+use mathlib.Core.Path.{_≡_, refl, ap, subst}
+use mathlib.Core.Bool.{true}
+use mathlib.Core.List.{List, [], _∷_, _++_, map}
+use Prim.Native.Nat.{ℕ, _+_, _*_, _≤_}
+use native.Mathlib.Omega.{arith}
+use lib.Ieee.{Float}
+use lib.ListN.{length, length-append, length-map}
+use Rattle.ieee.specs.Limit.{allWithin}
+use Rattle.ieee.proofs.Bounds.{all-within→bounded, all-bounded→within, all-bounded-append}
+use Rattle.command.specs.declared.PathCommand.{PathCommand}
+use Rattle.command.specs.Commands.{numbersOf}
+use Rattle.command.specs.Outcomes.{Outcome, refused, drawn}
+use Rattle.command.specs.Enlarged.{commandLimit}
+use Rattle.command.proofs.Passes.{numbers-append}
+use Rattle.command.proofs.Enlarged.{limit-value}
+use Rattle.item.specs.declared.ItemRow.{ItemRow}
+use Rattle.item.specs.Rows.{itemRow}
+use Rattle.draw.specs.Items.{drawSource}
+use Rattle.draw.proofs.Sources.{source-few}
+use Rattle.draw.proofs.Sound.{SoundOutcome, source-sound}
+use Rattle.merge.specs.Decision.{Ruling, declined, joined, decision}
+use Rattle.join.specs.Merge.{followedBy, drawSources, drawRuling, drawMerge}
+use Rattle.join.proofs.Joined.{joined-few}
+
+-- ---- the numbers
+
+nothing-sound : allWithin commandLimit [] ≡ true
+unfolding allWithin
+nothing-sound = refl
+
+within-append : (xs ys : List Float) → allWithin commandLimit xs ≡ true → allWithin commandLimit ys ≡ true → allWithin commandLimit (xs ++ ys) ≡ true
+within-append xs ys X Y =
+    let n : ℕ = 4194304 in
+    all-bounded→within n commandLimit (xs ++ ys) limit-value
+    (all-bounded-append n xs ys (all-within→bounded n commandLimit xs limit-value X) (all-within→bounded n commandLimit ys limit-value Y))
+
+followed-sound : (o p : Outcome) → SoundOutcome o → SoundOutcome p → SoundOutcome (followedBy o p)
+unfolding followedBy
+followed-sound (refused r) p O P = O
+followed-sound (drawn cs) (refused r) O P = P
+followed-sound (drawn cs) (drawn ds) O P = rw (numbers-append cs ds) (within-append (numbersOf cs) (numbersOf ds) O P)
+
+sources-sound : (rs : List ItemRow) (items : List Float) → SoundOutcome (drawSources rs items)
+unfolding drawSources
+sources-sound [] items = nothing-sound
+sources-sound (r ∷ rs) items = followed-sound (drawSource r items) (drawSources rs items) (source-sound r items) (sources-sound rs items)
+
+pub draw-merge-sound : (rows : List ℕ) (n : ℕ) (items : List Float) → SoundOutcome (drawMerge rows n items)
+unfolding drawMerge drawRuling
+draw-merge-sound rows n items = go (decision rows n)
+  where
+    go : (d : Ruling) → SoundOutcome (drawRuling rows items d)
+    go (declined r) = nothing-sound
+    go (joined numbers) = sources-sound (map (itemRow rows) numbers) items
+
+pub drawn-merge-sound : (rows : List ℕ) (n : ℕ) (items : List Float) (cs : List PathCommand) → drawMerge rows n items ≡ drawn cs → allWithin commandLimit (numbersOf cs) ≡ true
+drawn-merge-sound rows n items cs e = subst SoundOutcome e (draw-merge-sound rows n items)
+
+-- ---- the length: at most 255 sources of at most 1,026 commands
+
+followed-few : (o p : Outcome) (a b : ℕ) (es : List PathCommand) → ((cs : List PathCommand) → o ≡ drawn cs → length cs ≤ a) → ((ds : List PathCommand) → p ≡ drawn ds → length ds ≤ b)
+    → followedBy o p ≡ drawn es → length es ≤ a + b
+unfolding followedBy
+followed-few (refused r) p a b es O P e = let z : _≡_ {A = ℕ} 0 1 = cc in absurd (omega arith)
+followed-few (drawn cs) (refused r) a b es O P e = let z : _≡_ {A = ℕ} 0 1 = cc in absurd (omega arith)
+followed-few (drawn cs) (drawn ds) a b es O P e =
+    let f : es ≡ cs ++ ds = cc in
+    omega (arith, ap length f, length-append cs ds, O cs refl, P ds refl)
+
+sources-few : (rs : List ItemRow) (items : List Float) (cs : List PathCommand) → drawSources rs items ≡ drawn cs → length cs ≤ 1026 * length rs
+unfolding drawSources
+sources-few [] items cs e = let f : cs ≡ [] = cc in omega (arith, ap length f)
+sources-few (r ∷ rs) items cs e =
+    let l : length cs ≤ 1026 + 1026 * length rs = followed-few (drawSource r items) (drawSources rs items) 1026 (1026 * length rs) cs (source-few r items) (sources-few rs items) e in
+    omega arith
+
+pub drawn-merge-few : (rows : List ℕ) (n : ℕ) (items : List Float) (cs : List PathCommand) → drawMerge rows n items ≡ drawn cs → length cs ≤ 262144
+unfolding drawMerge drawRuling
+drawn-merge-few rows n items cs e = go (decision rows n) refl e
+  where
+    go : (d : Ruling) → decision rows n ≡ d → drawRuling rows items d ≡ drawn cs → length cs ≤ 262144
+    go (declined r) f g = let z : _≡_ {A = ℕ} 0 1 = cc in absurd (omega arith)
+    go (joined numbers) f g = omega (arith, sources-few (map (itemRow rows) numbers) items cs g, length-map numbers (itemRow rows), joined-few rows n numbers f)
