@@ -3,3 +3,4 @@ pub mod Ways
 pub mod Sources
 pub mod Sound
 pub mod Enlarged
+pub mod Read
