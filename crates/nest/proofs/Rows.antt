@@ -33,7 +33,7 @@ rest-step rows i n h =
 -- ---- entries past the row number are not read
 
 module _ (rows rows' : List ℕ) where
-  row-read : (i : ℕ) → ((j : ℕ) → j < 6 * i + 6 → getD rows j 0 ≡ getD rows' j 0) → itemRow rows i ≡ itemRow rows' i
+  pub row-read : (i : ℕ) → ((j : ℕ) → j < 6 * i + 6 → getD rows j 0 ≡ getD rows' j 0) → itemRow rows i ≡ itemRow rows' i
   row-read i same =
       rw (same (6 * i) (omega arith), same (6 * i + 1) (omega arith), same (6 * i + 2) (omega arith), same (6 * i + 3) (omega arith), same (6 * i + 4) (omega arith), same (6 * i + 5) (omega arith))
 
