@@ -1,5 +1,6 @@
--- What the proofs of `join` cite: each way out of a function, which rows are joined, that their drawing is a sound command list, and what of the rows and items it reads.
+-- What the proofs of `join` cite: each way out of a function, which rows are joined, that their drawing is a sound command list, what of the rows and items it reads, and its enlargement.
 pub mod Ways
 pub mod Joined
 pub mod Sound
 pub mod Read
+pub mod Enlarged
