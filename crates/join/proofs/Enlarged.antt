@@ -25,7 +25,8 @@ module _ {k q b : ℕ} where
   outcome-followed {o} {o'} {p} {p'} O P = rw (O .outcome, P .outcome) (go o p (O .grid) (P .grid))
     where
       go : (o p : Outcome) → AllOn q b (numbersOf (commandsOf o)) → AllOn q b (numbersOf (commandsOf p)) → OutcomeTwin k q b (followedBy o p) (followedBy (enlargedOutcome k o) (enlargedOutcome k p))
-      go (refused r) p A B = outcome-refused r
+      go (refused r) (refused s) A B = outcome-refused _
+      go (refused r) (drawn ds) A B = outcome-refused r
       go (drawn cs) (refused r) A B = outcome-refused r
       go (drawn cs) (drawn ds) A B = outcome-drawn (twins-append {cs = cs} {ds = ds} (record { commands = refl; grid = A }) (record { commands = refl; grid = B }))
 

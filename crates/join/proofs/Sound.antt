@@ -37,8 +37,9 @@ within-append xs ys X Y =
 
 followed-sound : (o p : Outcome) → SoundOutcome o → SoundOutcome p → SoundOutcome (followedBy o p)
 unfolding followedBy
-followed-sound (refused r) p O P = O
-followed-sound (drawn cs) (refused r) O P = P
+followed-sound (refused r) (refused s) O P = nothing-sound
+followed-sound (refused r) (drawn ds) O P = nothing-sound
+followed-sound (drawn cs) (refused r) O P = nothing-sound
 followed-sound (drawn cs) (drawn ds) O P = rw (numbers-append cs ds) (within-append (numbersOf cs) (numbersOf ds) O P)
 
 sources-sound : (rs : List ItemRow) (items : List Float) → SoundOutcome (drawSources rs items)
@@ -62,7 +63,8 @@ drawn-merge-sound rows n items cs e = subst SoundOutcome e (draw-merge-sound row
 followed-few : (o p : Outcome) (a b : ℕ) (es : List PathCommand) → ((cs : List PathCommand) → o ≡ drawn cs → length cs ≤ a) → ((ds : List PathCommand) → p ≡ drawn ds → length ds ≤ b)
     → followedBy o p ≡ drawn es → length es ≤ a + b
 unfolding followedBy
-followed-few (refused r) p a b es O P e = let z : _≡_ {A = ℕ} 0 1 = cc in absurd (omega arith)
+followed-few (refused r) (refused s) a b es O P e = let z : _≡_ {A = ℕ} 0 1 = cc in absurd (omega arith)
+followed-few (refused r) (drawn ds) a b es O P e = let z : _≡_ {A = ℕ} 0 1 = cc in absurd (omega arith)
 followed-few (drawn cs) (refused r) a b es O P e = let z : _≡_ {A = ℕ} 0 1 = cc in absurd (omega arith)
 followed-few (drawn cs) (drawn ds) a b es O P e =
     let f : es ≡ cs ++ ds = cc in
