@@ -2,4 +2,5 @@
 pub mod Commands
 pub mod Refusals
 pub mod Outcomes
+pub mod Needs
 pub mod Enlarged

@@ -7,6 +7,7 @@ ghost use lib.Seq.{sets};
 ghost use Rattle.command.specs.Commands.{codeOf, coordinatesOf};
 ghost use Rattle.command.specs.Refusals.{refusalNumber};
 ghost use Rattle.command.specs.Outcomes.{drawnNumber, drawnCodes, drawnNumbers};
+ghost use Rattle.command.specs.Needs.{needNumber, needCodes, needNumbers};
 
 // A path command, with its coordinates.
 pub enum PathCommand {
@@ -37,6 +38,12 @@ pub enum Refusal {
 pub enum Drawn {
     Refused(Refusal),
     Written(usize, usize),
+}
+
+// The codes and numbers that a drawing needs, or why there is none.
+pub enum Need {
+    Refused(Refusal),
+    Room(usize, usize),
 }
 
 // The number by which C knows a refusal.
@@ -86,6 +93,36 @@ pub fn drawn_numbers(drawn: Drawn) -> usize
     match drawn {
         Drawn::Refused(_) => 0,
         Drawn::Written(_, numbers) => numbers,
+    }
+}
+
+// The number that a call hands back about a need: 0 for an answer.
+pub fn need_number(need: Need) -> u32
+    ensures { λ r. ⌜ r ≡ needNumber need ⌝ }
+{
+    match need {
+        Need::Refused(refusal) => refusal_number(refusal),
+        Need::Room(_, _) => 0,
+    }
+}
+
+// How many codes are needed: none for a refusal.
+pub fn need_codes(need: Need) -> usize
+    ensures { λ r. ⌜ r ≡ needCodes need ⌝ }
+{
+    match need {
+        Need::Refused(_) => 0,
+        Need::Room(codes, _) => codes,
+    }
+}
+
+// How many numbers are needed: none for a refusal.
+pub fn need_numbers(need: Need) -> usize
+    ensures { λ r. ⌜ r ≡ needNumbers need ⌝ }
+{
+    match need {
+        Need::Refused(_) => 0,
+        Need::Room(_, numbers) => numbers,
     }
 }
 

@@ -20,6 +20,7 @@ use Rattle.command.specs.declared.Drawn.{Drawn}
 use Rattle.command.specs.Commands.{codesOf, numbersOf}
 use Rattle.command.specs.Refusals.{refusalNumber}
 use Rattle.command.specs.Outcomes.{Outcome, Filled, refused, drawn, fitted, commandsOf, drawnNumber, drawnCodes, drawnNumbers}
+use Rattle.command.specs.Needs.{needOf}
 use Rattle.command.proofs.Passes.{codes-length, codes-append, numbers-append}
 use Rattle.command.proofs.Buffers.{sets-append, sets-onto, unfilled}
 use Rattle.shape.specs.declared.Shape.{Shape}
@@ -38,10 +39,10 @@ use Rattle.merge.specs.declared.Decision.{Decision}
 use Rattle.merge.specs.declared.Decision.the-variants as Merge
 use Rattle.merge.specs.Flat.{isSourceRow, sourcesFrom}
 use Rattle.merge.specs.Decision.{said, decision, Settled}
-use Rattle.join.specs.declared.Need.{Need}
-use Rattle.join.specs.declared.Need.the-variants.{Refused, Room}
+use Rattle.command.specs.declared.Need.{Need}
+use Rattle.command.specs.declared.Need.the-variants.{Refused, Room}
 use Rattle.join.specs.Merge.{followedBy, drawSources, drawRuling, drawMerge}
-use Rattle.join.specs.Sources.{isDrawn, drawRow, drawRows, needOf, needAfter}
+use Rattle.join.specs.Sources.{isDrawn, drawRow, drawRows, needAfter}
 
 -- ---- shape_need
 pub shape-room : (cs : List PathCommand) (c n : ℕ) → c ≡ length cs → n ≡ length (numbersOf cs) → Room c n ≡ needOf (drawn cs)

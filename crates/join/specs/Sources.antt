@@ -3,14 +3,12 @@ use Prim.Native.Nat.{ℕ, _+_}
 use mathlib.Core.Bool.{Bool, true, false, cond}
 use mathlib.Core.List.{List, [], _∷_}
 use lib.Ieee.{Float}
-use lib.ListN.{length}
-use Rattle.command.specs.Commands.{codesOf, numbersOf}
 use Rattle.command.specs.Outcomes.{Outcome, refused, drawn}
 use Rattle.item.specs.declared.ItemRow.{ItemRow}
 use Rattle.draw.specs.Items.{drawSource}
 use Rattle.merge.specs.Flat.{isSourceRow}
-use Rattle.join.specs.declared.Need.{Need}
-use Rattle.join.specs.declared.Need.the-variants.{Refused, Room}
+use Rattle.command.specs.declared.Need.{Need}
+use Rattle.command.specs.declared.Need.the-variants.{Refused, Room}
 use Rattle.join.specs.Merge.{followedBy}
 
 abbrev pub isDrawn : Outcome → Bool
@@ -26,11 +24,6 @@ unfoldable pub drawRows : List ItemRow → List Float → Outcome
 unfolding followedBy drawRow
 drawRows [] items = drawn []
 drawRows (r ∷ rs) items = followedBy (drawRow r items) (drawRows rs items)
-
--- the room of an outcome, or its refusal
-unfoldable pub needOf : Outcome → Need
-needOf (refused r) = Refused r
-needOf (drawn cs) = Room (length (codesOf cs)) (length (numbersOf cs))
 
 -- a need with so much room before it
 unfoldable pub needAfter : ℕ → ℕ → Need → Need

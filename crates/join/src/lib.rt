@@ -1,5 +1,6 @@
 // The sources of a merge drawn one after another: judged and counted whole, then written.
 use command::Drawn;
+use command::Need;
 use command::Refusal;
 use draw::Checked;
 use item::ItemRow;
@@ -12,17 +13,12 @@ ghost use lib.ListN.{length};
 ghost use lib.Seq.{sets};
 ghost use Rattle.command.specs.Commands.{codesOf, numbersOf};
 ghost use Rattle.command.specs.Outcomes.{Filled, drawn, fitted, commandsOf, drawnNumber, drawnCodes, drawnNumbers};
+ghost use Rattle.command.specs.Needs.{needOf};
 ghost use Rattle.shape.specs.Shape.{shapeCommands, Fit};
 ghost use Rattle.draw.specs.Items.{drawSource};
 ghost use Rattle.nest.specs.Lists.{rowsFrom};
 ghost use Rattle.join.specs.Merge.{drawMerge};
-ghost use Rattle.join.specs.Sources.{isDrawn, drawRow, drawRows, needOf};
-
-// The codes and numbers that a drawing needs, or why there is none.
-pub enum Need {
-    Refused(Refusal),
-    Room(usize, usize),
-}
+ghost use Rattle.join.specs.Sources.{isDrawn, drawRow, drawRows};
 
 // Places in the two buffers.
 pub struct Places {
