@@ -1,0 +1,3 @@
+-- What the proofs of `estimate` cite, and that an estimate is enough.
+pub mod Ways
+pub mod Enough

@@ -1,0 +1,2 @@
+-- The tray estimate of document 01.
+pub mod Estimate
