@@ -27,6 +27,7 @@ use Rattle.repeater.proofs.Enlarged.{RepeaterTwin, Moved, copy-moved, count-sam
 use Rattle.copies.specs.declared.Verdict.{Verdict}
 use Rattle.copies.specs.declared.Verdict.the-variants.{Fault, Sound}
 use Rattle.copies.specs.Answers.{Answer, refused, answered}
+use Rattle.copies.specs.Enlarged.{movedNumbers, movedAnswer}
 use Rattle.copies.specs.Order.{orderOf, copyOrder}
 use Rattle.copies.specs.Calls.{repeaterNumbers, repeaterLimit, isCrowded, verdictOf, after, orderAnswer, copyNumbers, allFinite, finiteAnswer, copyAnswer, transformAnswer}
 use Rattle.copies.proofs.Ways.{offset-within, count-few}
@@ -38,20 +39,6 @@ limit-value = (refl, refl)
 -- a number of the grid and its multiple are within the limit
 grid-within : (b : ℕ) (x : Float) → b ≤ 20 → On 10 b x → within repeaterLimit x ≡ true
 grid-within b x B X = is-true (within repeaterLimit x) (Limits.within 10 20 x repeaterLimit (2 ^ 20) 1 (weaken 10 b 10 20 x (le-refl 10) B X) (lit< tt) limit-value (lit≤ tt))
-
--- the numbers of a copy with e and f times 2 ^ k
-abbrev pub movedNumbers : ℕ → List Float → List Float
-movedNumbers k [] = []
-movedNumbers k (a ∷ []) = a ∷ []
-movedNumbers k (a ∷ b ∷ []) = a ∷ b ∷ []
-movedNumbers k (a ∷ b ∷ c ∷ []) = a ∷ b ∷ c ∷ []
-movedNumbers k (a ∷ b ∷ c ∷ d ∷ []) = a ∷ b ∷ c ∷ d ∷ []
-movedNumbers k (a ∷ b ∷ c ∷ d ∷ e ∷ []) = a ∷ b ∷ c ∷ d ∷ e ∷ []
-movedNumbers k (a ∷ b ∷ c ∷ d ∷ e ∷ f ∷ rest) = a ∷ b ∷ c ∷ d ∷ scale k e ∷ scale k f ∷ rest
-
-abbrev pub movedAnswer : ℕ → Answer Float → Answer Float
-movedAnswer k (refused r) = refused r
-movedAnswer k (answered xs) = answered (movedNumbers k xs)
 
 module _ {k : ℕ} (K : k ≤ 6) where
   within-same : {x x' : Float} → Twin k 10 13 x x' → within repeaterLimit x' ≡ within repeaterLimit x

@@ -1,15 +1,17 @@
 -- A path enlarged by a power of two has the same ranges, and its cut lengths are multiplied; one that is not too short stays so. Assumes nothing.
 use mathlib.Core.Path.{_≡_, refl, sym, ap, _∙_, subst}
-use mathlib.Core.Bool.{Bool, true, false, _||_}
+use mathlib.Core.Bool.{Bool, true, false, cond, _&&_, _||_}
 use mathlib.Core.List.{List, [], _∷_, map}
 use Prim.Native.Nat.{ℕ, _+_, _*_, _^_, _≤_, _<_}
 use native.Mathlib.Nat.{le-refl, zero-lt-suc, le-mul-of-pos-right, mul-pos, mul-comm, mul-assoc, mul-le-mul-right}
 use native.Mathlib.Omega.{arith}
-use lib.Dec.{T}
+use lib.Dec.{T, ltb}
 use lib.Pow.{pow-pos}
 use lib.Ieee.{Float, binary32, ofBits, ofFields, odd, le, below, level}
 use lib.Ieee.Exact.{HasValue}
+use lib.Ieee.Scale.{finite}
 use lib.Count.{trailingZeros}
+use lib.ListN.{length}
 use Rattle.ieee.specs.Literal.{zero32, one32}
 use Rattle.ieee.specs.Operators.{_⊖_, _⊗_}
 use Rattle.ieee.specs.Grid.{scale, On, Twin}
@@ -19,24 +21,28 @@ use Rattle.ieee.proofs.Comparison.{le-at}
 use Rattle.ieee.proofs.Grid.{weaken, on→On, sub-on}
 use Rattle.ieee.proofs.Twins.{twin-mul, twin-max}
 use Rattle.command.specs.declared.PathCommand.{PathCommand}
-use Rattle.command.specs.declared.Refusal.the-variants.{OutOfRange, Unlisted, TooMany}
+use Rattle.command.specs.declared.Refusal.{Refusal}
+use Rattle.command.specs.declared.Refusal.the-variants.{TooMany, OutOfRange, Unlisted, TooShort}
 use Rattle.command.specs.Commands.{codesOf, numbersOf}
 use Rattle.command.specs.Enlarged.{AllOn, Twins}
 use Rattle.command.specs.Outcomes.{drawn}
+use Rattle.command.specs.Outcomes as outcomes
 use Rattle.curve.proofs.Enlarged.{zero-twin}
-use Rattle.judge.proofs.Enlarged.{judge-alike}
+use Rattle.judge.specs.Lists.{judgeList}
+use Rattle.judge.proofs.Enlarged.{judged-first, judged-enlarged}
 use Rattle.measure.specs.Length.{pathLength}
 use Rattle.measure.proofs.Enlarged.{length-twins}
 use Rattle.length.specs.Lists.{measuredOf, measureList}
 use Rattle.trim.specs.declared.TrimStyle.{TrimStyle}
 use Rattle.trim.specs.Trim.{normalizedTrimSegments}
+use Rattle.trim.specs.declared.Ranges.{Ranges}
 use Rattle.trim.specs.Ranges.{rangeEnds}
-use Rattle.cut.specs.declared.Trimmed.{Trimmed}
+use Rattle.trim.proofs.Grid.{ranges-on}
 use Rattle.cut.specs.declared.Trimmed.the-variants as trimmed
 use Rattle.cut.specs.Cuts.{partOf, cutAll}
 use Rattle.cut.specs.Calls.{isFiniteTrim, isTrimMode, shortest, trimMeasured, trimLengths}
+use Rattle.cut.specs.Enlarged.{enlargedAnswer, CutsAlike}
 use Rattle.cut.specs.Answers.{Answer, refused, answered, lengthsAnswer}
-use Rattle.cut.proofs.Ways.{lengths-beyond, lengths-unlisted, lengths-measured, measured-cut}
 
 -- ---- lists of numbers, place by place
 pub record NumberTwins (k q b : ℕ) (xs xs' : List Float) : Type 0 where
@@ -108,61 +114,98 @@ short-twin k q b total total' L h = go (le total' shortest) (le-shrunk k q b tot
     go false f = refl
     go true f = absurd (subst T h (f tt))
 
--- ---- answers, of which only the numbers are multiplied
-unfoldable pub enlargedTrimmed : ℕ → Trimmed → Trimmed
-enlargedTrimmed k (trimmed.Refused r) = trimmed.Refused r
-enlargedTrimmed k (trimmed.Cut total ranges) = trimmed.Cut (scale k total) ranges
+-- ---- the answers
+refused-is : (q r : Refusal) → refused q ≡ refused r → q ≡ r
+refused-is q r e = cc
 
-unfoldable pub enlargedAnswer : ℕ → Answer → Answer
-enlargedAnswer k (refused r) = refused r
-enlargedAnswer k (answered ranges numbers) = answered ranges (map (scale k) numbers)
+answered-not : {A : Type 0} (ranges : Ranges) (numbers : List Float) (r : Refusal) → answered ranges numbers ≡ refused r → A
+answered-not ranges numbers r e = let z : _≡_ {A = ℕ} 0 1 = cc in absurd (omega arith)
+
+-- one refusal for both that is not 'too short'
+refused-alike : (k : ℕ) (r : Refusal) → (r ≡ TooShort → ⊥) → CutsAlike k (refused r) (refused r)
+refused-alike k r other = record {
+  long = λ _. unfold enlargedAnswer in refl;
+  short = λ e q f. absurd (other (refused-is r TooShort e));
+}
+
+-- what the checks of the trim and of the list leave
+abbrev answerOf : Ranges → Bool → Bool → Bool → Bool → List Float → Answer
+answerOf ranges x y z s numbers = cond x (cond y (cond z (refused TooMany) (cond s (refused TooShort) (answered ranges numbers))) (refused Unlisted)) (refused OutOfRange)
+
+chain-alike : (k : ℕ) (ranges : Ranges) (cuts cuts' : List Float) (x y z s s' : Bool) → (s ≡ false → s' ≡ false) → (x ≡ true → cuts' ≡ map (scale k) cuts)
+    → CutsAlike k (answerOf ranges x y z s cuts) (answerOf ranges x y z s' cuts')
+unfolding enlargedAnswer
+chain-alike k ranges cuts cuts' false y z s s' longer multiplied = refused-alike k OutOfRange (λ e. unequal e)
+  where
+    unequal : OutOfRange ≡ TooShort → ⊥
+    unequal e = let n : _≡_ {A = ℕ} 0 1 = cc in omega arith
+chain-alike k ranges cuts cuts' true false z s s' longer multiplied = refused-alike k Unlisted (λ e. unequal e)
+  where
+    unequal : Unlisted ≡ TooShort → ⊥
+    unequal e = let n : _≡_ {A = ℕ} 0 1 = cc in omega arith
+chain-alike k ranges cuts cuts' true true true s s' longer multiplied = refused-alike k TooMany (λ e. unequal e)
+  where
+    unequal : TooMany ≡ TooShort → ⊥
+    unequal e = let n : _≡_ {A = ℕ} 0 1 = cc in omega arith
+chain-alike k ranges cuts cuts' true true false true true longer multiplied = record {
+  long = λ n. absurd (n refl);
+  short = λ e q f. sym (refused-is TooShort q f);
+}
+chain-alike k ranges cuts cuts' true true false true false longer multiplied = record {
+  long = λ n. absurd (n refl);
+  short = λ e q f. answered-not ranges cuts' q f;
+}
+chain-alike k ranges cuts cuts' true true false false true longer multiplied = let n : true ≡ false = longer refl in let z : _≡_ {A = ℕ} 0 1 = cc in absurd (omega arith)
+chain-alike k ranges cuts cuts' true true false false false longer multiplied = record {
+  long = λ n. ap (answered ranges) (multiplied refl);
+  short = λ e q f. answered-not ranges cuts TooShort e;
+}
 
 module _ (trim : TrimStyle) where
-  -- a trim that is refused for its numbers or its mode reads no list
-  read-alike : {A : Type 0} (f g : Trimmed → A) → f (trimmed.Refused OutOfRange) ≡ g (trimmed.Refused OutOfRange) → f (trimmed.Refused Unlisted) ≡ g (trimmed.Refused Unlisted)
-      → (codes codes' : List ℕ) (numbers numbers' : List Float) → f (trimMeasured trim (measureList codes' numbers')) ≡ g (trimMeasured trim (measureList codes numbers))
-      → f (trimLengths trim codes' numbers') ≡ g (trimLengths trim codes numbers)
-  read-alike f g beyond unlisted codes codes' numbers numbers' e = go (isFiniteTrim trim) refl (isTrimMode (trim .mode)) refl
+  -- a list's answer, by whether it has too many commands
+  abbrev answerFor : Bool → Float → Answer
+  answerFor z total =
+      answerOf (normalizedTrimSegments trim) (isFiniteTrim trim) (isTrimMode (trim .mode)) z (le total shortest) (cutAll total (rangeEnds (normalizedTrimSegments trim)))
+
+  answer-is : (cs : List PathCommand) (z : Bool) → judgeList (codesOf cs) (numbersOf cs) ≡ cond z (outcomes.refused TooMany) (drawn cs)
+      → lengthsAnswer (trimLengths trim (codesOf cs) (numbersOf cs)) ≡ answerFor z (pathLength cs)
+  unfolding lengthsAnswer trimLengths trimMeasured measureList measuredOf
+  answer-is cs z e = rw e (go (isFiniteTrim trim) (isTrimMode (trim .mode)) z (le (pathLength cs) shortest))
     where
-      of : true ≡ isFiniteTrim trim → true ≡ isTrimMode (trim .mode) → (codes : List ℕ) (numbers : List Float) → trimMeasured trim (measureList codes numbers) ≡ trimLengths trim codes numbers
-      of x-is y-is codes numbers =
-          lengths-measured trim true x-is codes numbers refl true y-is refl (measureList codes numbers) refl (trimMeasured trim (measureList codes numbers)) refl
+      go : (x y z s : Bool)
+          → lengthsAnswer (cond x (cond y (trimMeasured trim (measuredOf (cond z (outcomes.refused TooMany) (drawn cs)))) (trimmed.Refused Unlisted)) (trimmed.Refused OutOfRange))
+          ≡ cond x (cond y (cond z (refused TooMany) (cond (le (pathLength cs) shortest) (refused TooShort) (answered (normalizedTrimSegments trim) (cutAll (pathLength cs) (rangeEnds (normalizedTrimSegments trim)))))) (refused Unlisted)) (refused OutOfRange)
+      go false y z s = refl
+      go true false z s = refl
+      go true true true s = refl
+      go true true false s = ends (le (pathLength cs) shortest)
+        where
+          ends : (s : Bool) → lengthsAnswer (cond s (trimmed.Refused TooShort) (trimmed.Cut (pathLength cs) (normalizedTrimSegments trim)))
+              ≡ cond s (refused TooShort) (answered (normalizedTrimSegments trim) (cutAll (pathLength cs) (rangeEnds (normalizedTrimSegments trim))))
+          ends true = refl
+          ends false = refl
 
-      go : (x : Bool) → x ≡ isFiniteTrim trim → (y : Bool) → y ≡ isTrimMode (trim .mode) → f (trimLengths trim codes' numbers') ≡ g (trimLengths trim codes numbers)
-      go false x-is y y-is = sym (ap f (lengths-beyond trim false x-is codes' numbers' refl)) ∙ beyond ∙ ap g (lengths-beyond trim false x-is codes numbers refl)
-      go true x-is false y-is =
-          sym (ap f (lengths-unlisted trim true x-is codes' numbers' refl false y-is refl)) ∙ unlisted ∙ ap g (lengths-unlisted trim true x-is codes numbers refl false y-is refl)
-      go true x-is true y-is = sym (ap f (of x-is y-is codes' numbers')) ∙ e ∙ ap g (of x-is y-is codes numbers)
+  -- a trim with finite numbers has its ends on the grid of 2 ^ -37
+  finite-ends : isFiniteTrim trim ≡ true → AllOn 37 0 (rangeEnds (normalizedTrimSegments trim))
+  unfolding isFiniteTrim
+  finite-ends e = go (finite (trim .start)) refl (finite (trim .end)) refl (finite (trim .«offset_degrees»)) refl e
+    where
+      go : (a : Bool) → finite (trim .start) ≡ a → (b : Bool) → finite (trim .end) ≡ b → (c : Bool) → finite (trim .«offset_degrees») ≡ c → (a && (b && c)) ≡ true
+          → AllOn 37 0 (rangeEnds (normalizedTrimSegments trim))
+      go true p true q true r h = ranges-on trim (subst T (sym p) tt) (subst T (sym q) tt) (subst T (sym r) tt)
+      go true p true q false r h = let z : _≡_ {A = ℕ} 0 1 = cc in absurd (omega arith)
+      go true p false q c r h = let z : _≡_ {A = ℕ} 0 1 = cc in absurd (omega arith)
+      go false p b q c r h = let z : _≡_ {A = ℕ} 0 1 = cc in absurd (omega arith)
 
-  measured-of : (cs : List PathCommand) → le (pathLength cs) shortest ≡ false → trimMeasured trim (measuredOf (drawn cs)) ≡ trimmed.Cut (pathLength cs) (normalizedTrimSegments trim)
-  unfolding measuredOf
-  measured-of cs h = sym (measured-cut trim (measuredOf (drawn cs)) (pathLength cs) refl h (normalizedTrimSegments trim) refl)
-
-  module _ (k q b : ℕ) (cs cs' : List PathCommand) (B : b + k ≤ 22) (C : Twins k q b cs cs') (long : le (pathLength cs) shortest ≡ false) where
-    -- what is the same of each refusal and of the lengths is the same of the trims
-    module _ (Q : q + 56 ≤ 149) (K : b + 55 + k ≤ 127) {A : Type 0} (f g : Trimmed → A) where
-      trimmed-alike : f (trimmed.Refused OutOfRange) ≡ g (trimmed.Refused OutOfRange) → f (trimmed.Refused Unlisted) ≡ g (trimmed.Refused Unlisted) → f (trimmed.Refused TooMany) ≡ g (trimmed.Refused TooMany)
-          → f (trimmed.Cut (pathLength cs') (normalizedTrimSegments trim)) ≡ g (trimmed.Cut (pathLength cs) (normalizedTrimSegments trim))
-          → f (trimLengths trim (codesOf cs') (numbersOf cs')) ≡ g (trimLengths trim (codesOf cs) (numbersOf cs))
-      trimmed-alike beyond unlisted many e =
-          read-alike f g beyond unlisted (codesOf cs) (codesOf cs') (numbersOf cs) (numbersOf cs')
-          (unfold measureList in judge-alike C B (λ o. f (trimMeasured trim (measuredOf o))) (λ o. g (trimMeasured trim (measuredOf o))) (unfold trimMeasured measuredOf in many)
-          (ap f (measured-of cs' (short-twin k (q + 56) (b + 55) (pathLength cs) (pathLength cs') (length-twins k q b cs cs' Q K C) long)) ∙ e ∙ sym (ap g (measured-of cs long))))
-
-    -- the length is multiplied, and the ranges stay
-    pub trimmed-twins : q + 56 ≤ 149 → b + 55 + k ≤ 127 → trimLengths trim (codesOf cs') (numbersOf cs') ≡ enlargedTrimmed k (trimLengths trim (codesOf cs) (numbersOf cs))
-    unfolding enlargedTrimmed
-    trimmed-twins Q K =
-        trimmed-alike Q K (λ t. t) (enlargedTrimmed k) refl refl refl (ap (λ (x : Float). trimmed.Cut x (normalizedTrimSegments trim)) (length-twins k q b cs cs' Q K C .is))
-
-    -- the numbers that are told are multiplied; the refusal or the ranges are the same
-    pub lengths-twins : q + 93 ≤ 149 → b + 56 + k ≤ 127 → AllOn 37 0 (rangeEnds (normalizedTrimSegments trim))
-        → lengthsAnswer (trimLengths trim (codesOf cs') (numbersOf cs')) ≡ enlargedAnswer k (lengthsAnswer (trimLengths trim (codesOf cs) (numbersOf cs)))
-    unfolding lengthsAnswer enlargedAnswer
-    lengths-twins Q K E =
-        let ranges = normalizedTrimSegments trim in
-        let Q' : q + 56 ≤ 149 = omega arith in
-        let K' : b + 55 + k ≤ 127 = omega arith in
-        let L = length-twins k q b cs cs' Q' K' C in
-        trimmed-alike Q' K' lengthsAnswer (λ t. enlargedAnswer k (lengthsAnswer t)) refl refl refl
-        (ap (answered ranges) (cut-twins k (q + 56) (b + 55) (pathLength cs) (pathLength cs') (omega arith) (omega arith) L (rangeEnds ranges) E .numbers))
+  -- the same refusal or the same ranges, and every cut length multiplied; a path that is too short may no longer be when it is enlarged
+  pub cuts-alike : (k q b : ℕ) (cs cs' : List PathCommand) → q + 93 ≤ 149 → b + 56 + k ≤ 127 → b + k ≤ 22 → Twins k q b cs cs'
+      → CutsAlike k (lengthsAnswer (trimLengths trim (codesOf cs) (numbersOf cs))) (lengthsAnswer (trimLengths trim (codesOf cs') (numbersOf cs')))
+  cuts-alike k q b cs cs' Q K B C =
+      let ranges = normalizedTrimSegments trim in
+      let z = ltb 262144 (length cs) in
+      let L = length-twins k q b cs cs' (omega arith) (omega arith) C in
+      rw (answer-is cs z (judged-first C B), answer-is cs' z (judged-enlarged C B))
+      (chain-alike k ranges (cutAll (pathLength cs) (rangeEnds ranges)) (cutAll (pathLength cs') (rangeEnds ranges)) (isFiniteTrim trim) (isTrimMode (trim .mode)) z
+      (le (pathLength cs) shortest) (le (pathLength cs') shortest)
+      (short-twin k (q + 56) (b + 55) (pathLength cs) (pathLength cs') L)
+      (λ e. cut-twins k (q + 56) (b + 55) (pathLength cs) (pathLength cs') (omega arith) (omega arith) L (rangeEnds ranges) (finite-ends e) .numbers))

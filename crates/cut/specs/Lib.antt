@@ -2,3 +2,4 @@
 pub mod Cuts
 pub mod Calls
 pub mod Answers
+pub mod Enlarged

@@ -1,15 +1,15 @@
 -- A drawing of enlarged items is the enlarged drawing: the refusals are the same, and every number of the commands is multiplied. What is not read may differ freely. Assumes nothing.
 use mathlib.Core.Path.{_≡_, refl}
-use mathlib.Core.Bool.{Bool, true, false, cond}
+use mathlib.Core.Bool.{Bool, true, false, cond, _&&_, _||_}
 use mathlib.Core.List.{List, [], _∷_}
 use Prim.Native.Nat.{ℕ, zero, suc, _+_, _*_, _^_, _≤_, _<_}
 use native.Mathlib.Nat.{le-refl, zero-lt-suc}
 use native.Mathlib.Omega.{arith}
-use lib.Dec.{eqb, ltb, lit≤, lit<}
+use lib.Dec.{eqb, leb, ltb, lit≤, lit<}
 use lib.Ieee.{Float, nan}
 use lib.ListN.{length, getD, take, drop}
 use lib.Seq.{getD-drop}
-use borrow.Author.Tests.{ltb-false}
+use borrow.Author.Tests.{eqb-false, leb-true, ltb-false}
 use Rattle.ieee.specs.Limit.{allWithin, Bounded, AllBounded}
 use Rattle.ieee.specs.Grid.{On, Twin}
 use Rattle.ieee.proofs.Grid.{weaken, scale-on}
@@ -27,10 +27,10 @@ use Rattle.rect.proofs.Enlarged.{rect-twins}
 use Rattle.shape.specs.declared.Shape.the-variants.{Path, Rect}
 use Rattle.shape.specs.Shape.{shapeCommands}
 use Rattle.item.specs.declared.ItemRow.{ItemRow}
-use Rattle.item.specs.Rows.{itemRow, isPath}
+use Rattle.item.specs.Rows.{itemRow, isPath, markLimit, isListed}
 use Rattle.draw.specs.Checks.{coordinateLimit}
 use Rattle.draw.specs.Paths.{drawPath}
-use Rattle.draw.specs.Items.{isDrawable, isBare, entriesOf, itemShape, drawSource, drawItem}
+use Rattle.draw.specs.Items.{isDrawable, isBare, entriesOf, entriesRead, itemShape, drawSource, drawItem}
 use Rattle.draw.proofs.Sound.{limit-value}
 
 -- ---- the limit: 2 ^ 13 on the grid, and 2 ^ 19 after the enlargement, are below it
@@ -94,11 +94,11 @@ shape-twins k K row v v' twins = go (isPath row) twins
         rect-twins k K (getD v 0 nan) (getD v 1 nan) (getD v 2 nan) (getD v 3 nan) (getD v 4 nan) (getD v' 0 nan) (getD v' 1 nan) (getD v' 2 nan) (getD v' 3 nan) (getD v' 4 nan)
         (at 0 (lit< tt)) (at 1 (lit< tt)) (at 2 (lit< tt)) (at 3 (lit< tt)) (at 4 (lit< tt))
 
-pub source-outcome : (k : ℕ) → k ≤ 6 → (row : ItemRow) (items items' : List Float) → length items' ≡ length items
+entries-outcome : (k : ℕ) → k ≤ 6 → (row : ItemRow) (items items' : List Float) → length items' ≡ length items
     → ((i : ℕ) → row .place ≤ i → i < row .place + entriesOf row → i < length items → Twin k 10 13 (getD items i nan) (getD items' i nan))
     → OutcomeTwin k 35 16 (drawSource row items) (drawSource row items')
 unfolding drawSource
-source-outcome k K row items items' same twins =
+entries-outcome k K row items items' same twins =
     let v = drop (row .place) items in
     let v' = drop (row .place) items' in
     let n = entriesOf row in
@@ -109,11 +109,47 @@ source-outcome k K row items items' same twins =
     let at : (i : ℕ) → i < n → Twin k 10 13 (getD v i nan) (getD v' i nan) = λ i h. rw (getD-drop (row .place) items i nan, getD-drop (row .place) items' i nan) (twins (row .place + i) (omega arith) (omega arith) (omega arith)) in
     (first-within K n v v' at, enlarged-within K n v v' at, shape-twins k K row v v' at)))
 
+-- ---- the same, where only what is read is on the grid
+entries-read : (row : ItemRow) → 1 ≤ row .kind → row .kind ≤ 2 → entriesRead row ≡ entriesOf row
+unfolding entriesRead
+entries-read row low high = go (eqb (row .kind) 1) refl (eqb (row .kind) 2) refl
+  where
+    go : (a : Bool) → eqb (row .kind) 1 ≡ a → (b : Bool) → eqb (row .kind) 2 ≡ b → cond a (6 * row .count) (cond b 5 0) ≡ cond a (6 * row .count) 5
+    go true p b q = refl
+    go false p true q = refl
+    go false p false q =
+        let one : row .kind ≡ 1 → ⊥ = eqb-false (row .kind) 1 p in
+        let two : row .kind ≡ 2 → ⊥ = eqb-false (row .kind) 2 q in
+        absurd (omega arith)
+
+pub source-outcome : (k : ℕ) → k ≤ 6 → (row : ItemRow) → 1 ≤ row .kind → (items items' : List Float) → length items' ≡ length items
+    → ((i : ℕ) → row .place ≤ i → i < row .place + entriesRead row → i < length items → Twin k 10 13 (getD items i nan) (getD items' i nan))
+    → OutcomeTwin k 35 16 (drawSource row items) (drawSource row items')
+source-outcome k K row low items items' same twins = go (ltb 2 (row .kind)) refl
+  where
+    unread : ltb 2 (row .kind) ≡ true → (v : List Float) → drawSource row v ≡ refused Unsupported
+    unread e v = unfold drawSource in (rw e)
+
+    go : (b : Bool) → ltb 2 (row .kind) ≡ b → OutcomeTwin k 35 16 (drawSource row items) (drawSource row items')
+    go true e = rw (unread e items, unread e items') (outcome-refused Unsupported)
+    go false e = entries-outcome k K row items items' same (λ i h g l. twins i h (rw (entries-read row low (ltb-false 2 (row .kind) e)) g) l)
+
 -- ---- an item row
+drawable-kind : (row : ItemRow) → isDrawable row ≡ true → 1 ≤ row .kind
+unfolding isDrawable isListed
+drawable-kind row = go (leb 1 (row .kind)) refl (leb (row .kind) 14) (leb (row .hidden) 1) (leb (row .mark) (markLimit (row .kind))) (isPath row || eqb (row .count) 0) (leb (row .kind) 4)
+  where
+    go : (a : Bool) → leb 1 (row .kind) ≡ a → (b c d e f : Bool) → (((((a && b) && c) && d) && e) && f) ≡ true → 1 ≤ row .kind
+    go true p b c d e f h = leb-true 1 (row .kind) p
+    go false p b c d e f h = let z : _≡_ {A = ℕ} 0 1 = cc in absurd (omega arith)
+
 pub item-outcome : (k : ℕ) → k ≤ 6 → (row : List ℕ) (items items' : List Float) → length items' ≡ length items
-    → ((i : ℕ) → itemRow row 0 .place ≤ i → i < itemRow row 0 .place + entriesOf (itemRow row 0) → i < length items → Twin k 10 13 (getD items i nan) (getD items' i nan))
+    → ((i : ℕ) → itemRow row 0 .place ≤ i → i < itemRow row 0 .place + entriesRead (itemRow row 0) → i < length items → Twin k 10 13 (getD items i nan) (getD items' i nan))
     → OutcomeTwin k 35 16 (drawItem row items) (drawItem row items')
 unfolding drawItem
 item-outcome k K row items items' same twins =
-    outcome-choice {t = ltb (length row) 6} refl (outcome-refused OutOfBounds)
-    (outcome-choice {t = isDrawable (itemRow row 0)} refl (source-outcome k K (itemRow row 0) items items' same twins) (outcome-refused Unlisted))
+    outcome-choice {t = ltb (length row) 6} refl (outcome-refused OutOfBounds) (go (isDrawable (itemRow row 0)) refl)
+  where
+    go : (b : Bool) → isDrawable (itemRow row 0) ≡ b → OutcomeTwin k 35 16 (cond b (drawSource (itemRow row 0) items) (refused Unlisted)) (cond b (drawSource (itemRow row 0) items') (refused Unlisted))
+    go true e = source-outcome k K (itemRow row 0) (drawable-kind (itemRow row 0) e) items items' same twins
+    go false e = outcome-refused Unlisted

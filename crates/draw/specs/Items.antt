@@ -29,6 +29,10 @@ isBare row = isPath row && eqb (row .count) 0
 abbrev pub entriesOf : ItemRow → ℕ
 entriesOf row = cond (isPath row) (6 * row .count) 5
 
+-- how many of them drawing reads: none of a row that is neither
+unfoldable pub entriesRead : ItemRow → ℕ
+entriesRead row = cond (isPath row) (6 * row .count) (cond (eqb (row .kind) 2) 5 0)
+
 -- the shape of a path or a rectangle whose numbers stand at the start of v
 unfoldable pub itemShape : ItemRow → List Float → Shape
 itemShape row v =

@@ -18,14 +18,6 @@ use Rattle.merge.specs.Flat.{isSourceRow, sourcesFrom, scanFrom, lateFrom}
 use Rattle.merge.specs.Decision.{Ruling, declined, joined, ruling, decision}
 use Rattle.merge.proofs.Flat.{settled, flatRuling, ruling-flat, length-rows, take-rows, scan-inside}
 
--- r is one of the rows that the first n rows decide to join
-pub record JoinedRow (rows : List ℕ) (n : ℕ) (r : ItemRow) : Type 0 where
-  pub numbers : List ℕ
-  pub decided : decision rows n ≡ joined numbers
-  pub index : ℕ
-  pub inside : index < length numbers
-  pub is : r ≡ itemRow rows (getD numbers index 0)
-
 -- ---- the sources among rows
 
 pub sources-few : (rs : List ItemRow) (i : ℕ) → length (sourcesFrom i rs) ≤ length rs

@@ -17,7 +17,8 @@ use Rattle.nest.proofs.Alike.{Alike, ends, goes}
 use Rattle.merge.specs.Decision.{Ruling, declined, joined, decision}
 use Rattle.merge.proofs.Alike.{decision-alike, decision-read}
 use Rattle.join.specs.Merge.{followedBy, drawSources, drawRuling, drawMerge}
-use Rattle.join.proofs.Joined.{JoinedRow, joined-below, joined-source, source-visible}
+use Rattle.join.specs.Joined.{JoinedRow}
+use Rattle.join.proofs.Joined.{joined-below, joined-source, source-visible}
 
 -- ---- the item list
 

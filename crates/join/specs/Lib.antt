@@ -1,3 +1,4 @@
 -- What a merge answers, and what its rows draw one by one.
 pub mod Merge
 pub mod Sources
+pub mod Joined

@@ -17,7 +17,8 @@ use Rattle.command.specs.Outcomes.{Outcome, refused, drawn, numberOf}
 use Rattle.command.specs.Enlarged.{AllOn, Twins, commandLimit}
 use Rattle.command.proofs.Passes.{codes-length}
 use Rattle.command.proofs.Enlarged.{grid-within, twins-codes, twins-numbers, twins-length, twins-grid}
-use Rattle.judge.specs.Lists.{sizeOfCode, judgeList, placeOf, askedFor, judgeCommand, commandFault, partOf, commandPart}
+use Rattle.judge.specs.declared.Found.{Found}
+use Rattle.judge.specs.Lists.{sizeOfCode, judgeList, placeOf, askedFor, judgeCommand, foundOf, findCommand, commandFault, partOf, commandPart}
 use Rattle.judge.proofs.Lists.{commands-read}
 
 -- ---- a list within the limit, judged: only its length counts
@@ -47,6 +48,14 @@ asked-part f j n cs cs' v = go (ltb j n)
     go true = unfold partOf in refl
     go false = unfold partOf in refl
 
+asked-found : (j n start count : ℕ) (cs cs' : List PathCommand) → foundOf (askedFor j n (drawn cs')) start count ≡ foundOf (askedFor j n (drawn cs)) start count
+unfolding askedFor
+asked-found j n start count cs cs' = go (ltb j n)
+  where
+    go : (there : Bool) → foundOf (cond there (drawn cs') (refused OutOfBounds)) start count ≡ foundOf (cond there (drawn cs) (refused OutOfBounds)) start count
+    go true = unfold foundOf in refl
+    go false = refl
+
 take-map : (f : Float → Float) (n : ℕ) (v : List Float) → take n (map f v) ≡ map f (take n v)
 take-map f zero v = refl
 take-map f (suc n) [] = refl
@@ -75,10 +84,10 @@ module _ {k q b : ℕ} {cs cs' : List PathCommand} (t : Twins k q b cs cs') wher
       ∙ take-map (scale k) n (drop m (numbersOf cs))
 
   module _ (B : b + k ≤ 22) where
-    judged-first : judgeList (codesOf cs) (numbersOf cs) ≡ cond (ltb 262144 (length cs)) (refused TooMany) (drawn cs)
+    pub judged-first : judgeList (codesOf cs) (numbersOf cs) ≡ cond (ltb 262144 (length cs)) (refused TooMany) (drawn cs)
     judged-first = judged q b cs (omega arith) (t .grid)
 
-    judged-enlarged : judgeList (codesOf cs') (numbersOf cs') ≡ cond (ltb 262144 (length cs)) (refused TooMany) (drawn cs')
+    pub judged-enlarged : judgeList (codesOf cs') (numbersOf cs') ≡ cond (ltb 262144 (length cs)) (refused TooMany) (drawn cs')
     judged-enlarged = judged q (b + k) cs' B (twins-grid t) ∙ ap (λ (n : ℕ). cond (ltb 262144 n) (refused TooMany) (drawn cs')) (twins-length t)
 
     -- ---- the list
@@ -120,3 +129,12 @@ module _ {k q b : ℕ} {cs cs' : List PathCommand} (t : Twins k q b cs cs') wher
           let v = take (sizeOfCode (getD (codesOf cs) j 3)) (drop (placeOf j (codesOf cs)) (numbersOf cs)) in
           ap₂ partOf asked-enlarged (numbers-at j)
           ∙ judge-alike (λ o. partOf (askedFor j n o) (map (scale k) v)) (λ o. map (scale k) (partOf (askedFor j n o) v)) (unfold askedFor partOf in refl) (asked-part (scale k) j n cs cs' v)
+
+      pub found-twins : findCommand (codesOf cs') (numbersOf cs') j ≡ findCommand (codesOf cs) (numbersOf cs) j
+      unfolding findCommand judgeCommand
+      found-twins =
+          let n = length (codesOf cs) in
+          let start = placeOf j (codesOf cs) in
+          let count = sizeOfCode (getD (codesOf cs) j 3) in
+          let found : Outcome → Found = λ o. foundOf (askedFor j n o) start count in
+          (λ i. foundOf (asked-enlarged i) (place-twins j i) (size-twins j i)) ∙ judge-alike found found refl (asked-found j n start count cs cs')

@@ -1,2 +1,3 @@
 -- The length of a lent command list.
 pub mod Lists
+pub mod Enlarged
