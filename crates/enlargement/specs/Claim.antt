@@ -1,0 +1,50 @@
+-- What it is that every call answers a plate and the same plate enlarged alike: the third demand of the mission, as one record with a field for each call.
+--
+--   drawing                     the same refusal, or the same codes and every coordinate multiplied
+--   tray estimate               the same
+--   merge decision              the same: a refusal, or which rows are joined
+--   merge                       as drawing
+--   length                      the same refusal, or the length multiplied
+--   one command's numbers       the same refusal, place and count; the numbers multiplied
+--   ranges                      the same
+--   cut lengths                 the same refusal, or the same ranges and every cut length multiplied. Where the smaller path is too short, the larger is too short or accepted.
+--   copy order                  the same
+--   copy transform              the same refusal, or the same a, b, c, d and opacity, and the shift e, f multiplied
+--
+-- 'Multiplied' is `scale k`: the float whose value is exactly 2 ^ k times as large, a zero keeping its sign (crates/ieee/specs/Grid.antt).
+-- The answers are compared before the size of the caller's buffers is asked; what they then are in a buffer is `Filled`, `Placed` and `Told` of the calls' own promises,
+-- which hold each exported function to the definitions that stand here.
+-- Definitions only.
+use Prim.Native.Nat.{ℕ}
+use mathlib.Core.Path.{_≡_}
+use mathlib.Core.List.{map}
+use Rattle.ieee.specs.Grid.{scale}
+use Rattle.command.specs.Enlarged.{enlargedOutcome}
+use Rattle.draw.specs.Paths.{drawPath}
+use Rattle.draw.specs.Items.{drawItem}
+use Rattle.estimate.specs.Estimate.{trayEstimate}
+use Rattle.merge.specs.Decision.{decision}
+use Rattle.join.specs.Merge.{drawMerge}
+use Rattle.judge.specs.Lists.{findCommand, commandPart}
+use Rattle.length.specs.Lists.{measureList}
+use Rattle.length.specs.Enlarged.{enlargedMeasured}
+use Rattle.cut.specs.Calls.{trimRanges, trimLengths}
+use Rattle.cut.specs.Answers.{rangesAnswer, lengthsAnswer}
+use Rattle.cut.specs.Enlarged.{CutsAlike}
+use Rattle.copies.specs.Calls.{orderAnswer, transformAnswer}
+use Rattle.copies.specs.Enlarged.{movedAnswer}
+use Rattle.enlargement.specs.Plates.{Plate}
+
+pub record AnsweredAlike (k : ℕ) (p p' : Plate) : Type 0 where
+  pub path-drawn : drawPath (p' .lent .closed) (p' .vertices) (p' .lent .count) ≡ enlargedOutcome k (drawPath (p .lent .closed) (p .vertices) (p .lent .count))
+  pub item-drawn : drawItem (p' .lent .row) (p' .items) ≡ enlargedOutcome k (drawItem (p .lent .row) (p .items))
+  pub tray-estimate : trayEstimate (p' .lent .count) ≡ trayEstimate (p .lent .count)
+  pub merge-decision : decision (p' .lent .rows) (p' .lent .rowCount) ≡ decision (p .lent .rows) (p .lent .rowCount)
+  pub merge-drawn : drawMerge (p' .lent .rows) (p' .lent .rowCount) (p' .items) ≡ enlargedOutcome k (drawMerge (p .lent .rows) (p .lent .rowCount) (p .items))
+  pub length-measured : measureList (p' .lent .codes) (p' .numbers) ≡ enlargedMeasured k (measureList (p .lent .codes) (p .numbers))
+  pub command-found : findCommand (p' .lent .codes) (p' .numbers) (p' .lent .command) ≡ findCommand (p .lent .codes) (p .numbers) (p .lent .command)
+  pub command-numbers : commandPart (p' .lent .codes) (p' .numbers) (p' .lent .command) ≡ map (scale k) (commandPart (p .lent .codes) (p .numbers) (p .lent .command))
+  pub ranges : rangesAnswer (trimRanges (p' .lent .trim)) ≡ rangesAnswer (trimRanges (p .lent .trim))
+  pub cut-lengths : CutsAlike k (lengthsAnswer (trimLengths (p .lent .trim) (p .lent .codes) (p .numbers))) (lengthsAnswer (trimLengths (p' .lent .trim) (p' .lent .codes) (p' .numbers)))
+  pub copy-order : orderAnswer (p' .repeater) ≡ orderAnswer (p .repeater)
+  pub copy-transform : transformAnswer (p' .repeater) (p' .lent .copy) ≡ movedAnswer k (transformAnswer (p .repeater) (p .lent .copy))

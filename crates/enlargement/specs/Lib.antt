@@ -1,0 +1,3 @@
+-- Two plates, and what it is that every call answers them alike.
+pub mod Plates
+pub mod Claim
