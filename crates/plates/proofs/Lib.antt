@@ -1,0 +1,2 @@
+-- The theorem of the worked examples.
+pub mod Plates

@@ -1,0 +1,1 @@
+// The worked examples of document 01 that are proved, in specs/ and proofs/. There is no code.
