@@ -1,63 +1,489 @@
-/* A panel's progress ring: draws a circle once, measures it, and asks for each state how much of the line is shown.
+/* A bag panel of a coin sorter, written to standard output as an SVG page. Each bag has a frame round its mouth, a ring
+   that shows how full it is, and a stack of coins. The panel is drawn at size 1, and from enlarged input at size 2. The
+   program compares the two and fails where the second is not the first, exactly enlarged.
 
-   gcc -Iinclude examples/panel.c target/staticlib/libjengafir.a */
+       gcc -std=c99 -Iinclude examples/panel.c target/staticlib/libjengafir.a -o panel && ./panel >panel.svg
+
+   The library's numbers are printed with nine significant digits. No two floats have the same nine, so pages with the
+   same text have the same numbers, bit for bit, and every printf that rounds to the nearest prints the same text.
+   Captions have fewer digits: they are for people. */
 #include "jengafir.h"
 
 #include <stdio.h>
+#include <stdlib.h>
+#include <string.h>
 
 #define COUNT(list) (sizeof(list) / sizeof(list)[0])
 
-/* A circle of radius 100 around (128, 128) from its top, clockwise: four vertices, and tangents of 55.228474. */
-static const float circle[] = {
-    128, 28,  -55.228474f, 0,           55.228474f,  0,
-    228, 128, 0,           -55.228474f, 0,           55.228474f,
-    128, 228, 55.228474f,  0,           -55.228474f, 0,
-    28,  128, 0,           55.228474f,  0,           -55.228474f,
+#define FACTOR 2
+
+/* What a bag holds at most, and how many of its coins one coin of the stack stands for. */
+#define FULL 100
+#define COINS_PER_COPY 10
+#define MOST_COPIES (FULL / COINS_PER_COPY)
+
+/* A multiple of 1/1024. On this grid a drawing enlarges exactly. */
+#define GRID(n) ((n) / 1024.0f)
+
+/* Tangents that make four cubics round: 0.5522848 of a radius of 20, of 18 and of 6, on the grid. */
+#define RING_TANGENT GRID(11311)
+#define COIN_TANGENT_X GRID(10180)
+#define COIN_TANGENT_Y GRID(3393)
+
+/* A mouth at size 1 is 64 by 64, and a stack 64 by 54. */
+#define MOUTH_HEIGHT 64
+#define STACK_HEIGHT 54
+#define MIDDLE 32
+#define COIN_Y 46
+
+/* The items of a bag at size 1: the frame's rectangles, and the ring and the coin from the right, clockwise. */
+static const float items[] = {
+    MIDDLE, 32, 60, 60, 14,
+    MIDDLE, 32, 52, 52, 10,
+    MIDDLE + 20, 32, 0, -RING_TANGENT, 0, RING_TANGENT,
+    MIDDLE, 52, RING_TANGENT, 0, -RING_TANGENT, 0,
+    MIDDLE - 20, 32, 0, RING_TANGENT, 0, -RING_TANGENT,
+    MIDDLE, 12, -RING_TANGENT, 0, RING_TANGENT, 0,
+    MIDDLE + 18, COIN_Y, 0, -COIN_TANGENT_Y, 0, COIN_TANGENT_Y,
+    MIDDLE, COIN_Y + 6, COIN_TANGENT_X, 0, -COIN_TANGENT_X, 0,
+    MIDDLE - 18, COIN_Y, 0, COIN_TANGENT_Y, 0, -COIN_TANGENT_Y,
+    MIDDLE, COIN_Y - 6, -COIN_TANGENT_X, 0, COIN_TANGENT_X, 0,
 };
+#define ITEMS COUNT(items)
+#define OUTER_PLACE 0
+#define INNER_PLACE 5
+#define RING_PLACE 10
+#define COIN_PLACE 34
 
-/* n vertices never need more than n + 2 codes and 6 n + 2 numbers. */
-static uint8_t codes[4 + 2];
-static float numbers[6 * 4 + 2];
+static const uint32_t frame_rows[][6] = {
+    {JENGAFIR_RC, 0, 0, 0, OUTER_PLACE, 0},
+    {JENGAFIR_RC, 0, 0, 0, INNER_PLACE, 0},
+    {JENGAFIR_MM, 0, 0, 1, 0, 0},
+    {JENGAFIR_FL, 0, 0, 0, 0, 0},
+};
+static const uint32_t ring_row[6] = {JENGAFIR_SH, 0, 0, 1, RING_PLACE, 4};
+static const uint32_t coin_row[6] = {JENGAFIR_SH, 0, 0, 1, COIN_PLACE, 4};
 
-static void show(const char *what, size_t codes_len, size_t numbers_len, float start, float end, float offset)
-{
-    float cuts[6];
-    size_t ranges;
+/* How many coins a bag holds, from where its ring is shown, in degrees from the right, and the repeater's mode. */
+typedef struct {
+    int coins;
+    float offset;
+    uint8_t mode;
+} Bag;
+
+static const Bag bags[] = {{0, -90, 1}, {10, -90, 1}, {25, -90, 1}, {60, -90, 1}, {100, -90, 1}, {100, 0, 2}};
+#define BAGS COUNT(bags)
+
+/* A command list in buffers of its own, and its length. */
+typedef struct {
+    uint8_t *codes;
+    float *numbers;
+    size_t codes_len, numbers_len, code_count, number_count;
+    float length;
+} Path;
+
+/* How much of the ring is visible, and the copies of the coin in the order in which they are drawn. */
+typedef struct {
+    float ranges[4], cuts[6];
+    size_t range_count;
     uint32_t whole;
-    uint32_t refusal = jengafir_trim_lengths(start, end, offset, 1, codes, codes_len, numbers, numbers_len, cuts,
-                                             &ranges, &whole);
-    printf("%s: ", what);
-    if (refusal != JENGAFIR_ACCEPTED)
-        printf("refused with %u", (unsigned)refusal);
-    else if (ranges == 0)
-        printf("bare");
-    else if (whole)
-        printf("whole");
-    for (size_t i = 0; i < ranges && !whole; i++)
-        printf("%sskip %.9g, draw %.9g, skip %.9g", i == 0 ? "" : "; ", cuts[3 * i], cuts[3 * i + 1], cuts[3 * i + 2]);
-    printf("\n");
+    uint32_t order[MOST_COPIES];
+    float copies[MOST_COPIES][7];
+    size_t copy_count;
+} Fill;
+
+typedef struct {
+    int size;
+    Path frame, ring, coin;
+    float ring_start[2];
+    Fill fills[BAGS];
+} Panel;
+
+static void fail(const char *why)
+{
+    fprintf(stderr, "panel: %s\n", why);
+    exit(1);
+}
+
+static void must_accept(const char *call, uint32_t refusal)
+{
+    if (refusal != JENGAFIR_ACCEPTED) {
+        fprintf(stderr, "panel: %s refuses with %u\n", call, (unsigned)refusal);
+        exit(1);
+    }
+}
+
+/* Buffers for the drawings of so many sources. A drawing of n vertices never has more than n + 2 codes and 6 n + 2
+   numbers. */
+static Path buffers(size_t sources, size_t vertices)
+{
+    size_t codes_needed = vertices + 2, numbers_needed = 6 * vertices + 2;
+    Path path = {0};
+    path.codes_len = sources * codes_needed;
+    path.numbers_len = sources * numbers_needed;
+    path.codes = malloc(path.codes_len * sizeof *path.codes);
+    path.numbers = malloc(path.numbers_len * sizeof *path.numbers);
+    if (path.codes == NULL || path.numbers == NULL)
+        fail("no memory for a path");
+    return path;
+}
+
+static void measure(Path *path)
+{
+    uint32_t refusal =
+        jengafir_length(path->codes, path->code_count, path->numbers, path->number_count, &path->length);
+    must_accept("jengafir_length", refusal);
+}
+
+/* A round rectangle has the commands of eight vertices. */
+static Path draw_frame(const float *enlarged)
+{
+    Path path = buffers(2, 8);
+    uint32_t refusal =
+        jengafir_merge(frame_rows[0], 6 * COUNT(frame_rows), COUNT(frame_rows), enlarged, ITEMS, path.codes,
+                       path.codes_len, path.numbers, path.numbers_len, &path.code_count, &path.number_count);
+    must_accept("jengafir_merge", refusal);
+    measure(&path);
+    return path;
+}
+
+static Path draw_row(const uint32_t row[6], const float *enlarged)
+{
+    Path path = buffers(1, row[5]);
+    uint32_t refusal =
+        jengafir_draw_item(row, 6, enlarged, ITEMS, path.codes, path.codes_len, path.numbers, path.numbers_len,
+                           &path.code_count, &path.number_count);
+    must_accept("jengafir_draw_item", refusal);
+    measure(&path);
+    return path;
+}
+
+/* The point of the path's first command, which is a move. */
+static void find_start(const Path *path, float point[2])
+{
+    size_t start, count;
+    uint32_t refusal = jengafir_command(path->codes, path->code_count, path->numbers, path->number_count, 0, &start,
+                                        &count);
+    must_accept("jengafir_command", refusal);
+    if (count != 2)
+        fail("the ring does not begin with a move");
+    memcpy(point, path->numbers + start, 2 * sizeof *point);
+}
+
+static void trim(const Bag *bag, const Path *ring, Fill *fill)
+{
+    float end = 100.0f * (float)bag->coins / FULL;
+    size_t range_count;
+    uint32_t whole;
+    uint32_t refusal = jengafir_trim_ranges(0, end, bag->offset, fill->ranges, &range_count, &whole);
+    must_accept("jengafir_trim_ranges", refusal);
+    refusal = jengafir_trim_lengths(0, end, bag->offset, 1, ring->codes, ring->code_count, ring->numbers,
+                                    ring->number_count, fill->cuts, &fill->range_count, &fill->whole);
+    must_accept("jengafir_trim_lengths", refusal);
+    if (range_count != fill->range_count || whole != fill->whole)
+        fail("a trim has other ranges than cuts");
+}
+
+/* The coins grow smaller around their middle as the stack grows, and those below are paler. */
+static void stack(const Bag *bag, int size, Fill *fill)
+{
+    const float factor = (float)size;
+    const float repeater[11] = {
+        (float)bag->coins / COINS_PER_COPY, 0,
+        MIDDLE * factor, COIN_Y * factor,
+        0, -4 * factor,
+        98, 98,
+        0,
+        0.5f, 1,
+    };
+    uint32_t refusal = jengafir_copy_order(repeater, bag->mode, fill->order, MOST_COPIES, &fill->copy_count);
+    must_accept("jengafir_copy_order", refusal);
+    for (size_t i = 0; i < fill->copy_count; i++) {
+        size_t count;
+        refusal = jengafir_copy_transform(repeater, bag->mode, fill->order[i], fill->copies[i], 7, &count);
+        must_accept("jengafir_copy_transform", refusal);
+    }
+}
+
+static void draw_panel(int size, Panel *panel)
+{
+    float enlarged[ITEMS];
+    for (size_t i = 0; i < ITEMS; i++)
+        enlarged[i] = items[i] * (float)size;
+    panel->size = size;
+    panel->frame = draw_frame(enlarged);
+    panel->ring = draw_row(ring_row, enlarged);
+    panel->coin = draw_row(coin_row, enlarged);
+    find_start(&panel->ring, panel->ring_start);
+    for (size_t i = 0; i < BAGS; i++) {
+        trim(&bags[i], &panel->ring, &panel->fills[i]);
+        stack(&bags[i], size, &panel->fills[i]);
+    }
+}
+
+static size_t numbers_compared;
+
+/* Numbers are compared by their bits, because a zero has to keep its sign. */
+static void must_enlarge(const char *what, const float *small, const float *large, size_t count)
+{
+    for (size_t i = 0; i < count; i++) {
+        float product = FACTOR * small[i];
+        if (memcmp(&product, &large[i], sizeof product) != 0)
+            fail(what);
+    }
+    numbers_compared += count;
+}
+
+static void must_stay(const char *what, const float *small, const float *large, size_t count)
+{
+    if (memcmp(small, large, count * sizeof *small) != 0)
+        fail(what);
+    numbers_compared += count;
+}
+
+static void compare_paths(const Path *small, const Path *large)
+{
+    if (small->code_count != large->code_count || small->number_count != large->number_count ||
+        memcmp(small->codes, large->codes, small->code_count) != 0)
+        fail("a path has other commands at the larger size");
+    must_enlarge("a coordinate is not enlarged exactly", small->numbers, large->numbers, small->number_count);
+    must_enlarge("a length is not enlarged exactly", &small->length, &large->length, 1);
+}
+
+static void compare_trims(const Fill *small, const Fill *large)
+{
+    if (small->range_count != large->range_count || small->whole != large->whole)
+        fail("a trim has other ranges at the larger size");
+    must_stay("a trim has other ranges at the larger size", small->ranges, large->ranges, 2 * small->range_count);
+    must_enlarge("a cut is not enlarged exactly", small->cuts, large->cuts, 3 * small->range_count);
+}
+
+static void compare_stacks(const Fill *small, const Fill *large)
+{
+    if (small->copy_count != large->copy_count ||
+        memcmp(small->order, large->order, small->copy_count * sizeof *small->order) != 0)
+        fail("a stack has another order at the larger size");
+    for (size_t i = 0; i < small->copy_count; i++) {
+        const float *one = small->copies[i], *two = large->copies[i];
+        must_stay("a copy has another shape at the larger size", one, two, 4);
+        must_enlarge("the shift of a copy is not enlarged exactly", one + 4, two + 4, 2);
+        must_stay("a copy has another opacity at the larger size", one + 6, two + 6, 1);
+    }
+}
+
+static void compare(const Panel *small, const Panel *large)
+{
+    compare_paths(&small->frame, &large->frame);
+    compare_paths(&small->ring, &large->ring);
+    compare_paths(&small->coin, &large->coin);
+    must_enlarge("the start of the ring is not enlarged exactly", small->ring_start, large->ring_start, 2);
+    for (size_t i = 0; i < BAGS; i++) {
+        compare_trims(&small->fills[i], &large->fills[i]);
+        compare_stacks(&small->fills[i], &large->fills[i]);
+    }
+}
+
+/* The page: a title, a panel of each size and a line at the foot, with a column a bag. */
+#define MARGIN 28
+#define COLUMN 150
+#define LINE 15
+#define TITLE_HEIGHT 96
+#define HEADING_HEIGHT 30
+#define CAPTION_HEIGHT 56
+#define FOOT_HEIGHT 48
+#define PANEL_HEIGHT(size) (HEADING_HEIGHT + (MOUTH_HEIGHT + STACK_HEIGHT) * (size) + 2 * CAPTION_HEIGHT)
+#define PAGE_WIDTH (COLUMN * (int)BAGS + 2 * MARGIN)
+#define PAGE_HEIGHT (TITLE_HEIGHT + PANEL_HEIGHT(1) + PANEL_HEIGHT(FACTOR) + FOOT_HEIGHT)
+
+#define GROUND "#fdfcf9"
+#define INK "#3d3a33"
+#define PALE_INK "#736d60"
+
+/* Of a ring's first range, and of its second. */
+static const char *const colours[] = {"#a8562a", "#2f7a78"};
+
+static void write_numbers(const float *numbers, size_t count)
+{
+    for (size_t i = 0; i < count; i++)
+        printf("%s%.9g", i == 0 ? "" : " ", numbers[i]);
+}
+
+/* Begins a path element, which is left open for further attributes. */
+static void begin_path(const Path *path)
+{
+    static const char letters[] = {'M', 'L', 'C', 'Z', 'Q'};
+    static const size_t counts[] = {2, 2, 6, 0, 4};
+    const float *numbers = path->numbers;
+    printf("<path d=\"");
+    for (size_t i = 0; i < path->code_count; i++) {
+        uint8_t code = path->codes[i];
+        printf("%s%c", i == 0 ? "" : " ", letters[code]);
+        write_numbers(numbers, counts[code]);
+        numbers += counts[code];
+    }
+    printf("\"");
+}
+
+static void write_frame(const Path *frame)
+{
+    begin_path(frame);
+    printf(" fill=\"#ddd6c6\" fill-rule=\"evenodd\" stroke=\"#6f6858\"/>\n");
+}
+
+/* One range, as a stroke of the ring. Dashes and gaps take turns, so an empty dash stands before the part that is
+   skipped. The path is said to be as long as the library finds it, so that it is cut in the same proportions. */
+static void write_range(const Panel *panel, const Fill *fill, size_t i)
+{
+    begin_path(&panel->ring);
+    printf(" fill=\"none\" stroke=\"%s\" stroke-width=\"%d\" pathLength=\"%.9g\" stroke-dasharray=\"0 ", colours[i],
+           5 * panel->size, panel->ring.length);
+    write_numbers(fill->cuts + 3 * i, 3);
+    printf("\"/>\n");
+}
+
+/* The path itself as a thin line, what is visible of it, a dot where it starts, and the number of coins. */
+static void write_ring(const Panel *panel, const Fill *fill, int coins)
+{
+    begin_path(&panel->ring);
+    printf(" fill=\"none\" stroke=\"#cfc8b8\"/>\n");
+    for (size_t i = 0; i < fill->range_count; i++)
+        write_range(panel, fill, i);
+    printf("<circle cx=\"%.9g\" cy=\"%.9g\" r=\"%d\" fill=\"" GROUND "\" stroke=\"" INK "\"/>\n",
+           panel->ring_start[0], panel->ring_start[1], 2 * panel->size);
+    printf("<text x=\"%d\" y=\"%d\" text-anchor=\"middle\" font-size=\"%d\" fill=\"" INK "\">%d</text>\n",
+           MIDDLE * panel->size, (MOUTH_HEIGHT / 2 + 4) * panel->size, 11 * panel->size, coins);
+}
+
+static void write_stack(const Path *coin, const Fill *fill)
+{
+    for (size_t i = 0; i < fill->copy_count; i++) {
+        begin_path(coin);
+        printf(" fill=\"#f4e3b8\" stroke=\"#8a6a2c\" opacity=\"%.9g\" transform=\"matrix(", fill->copies[i][6]);
+        write_numbers(fill->copies[i], 6);
+        printf(")\"/>\n");
+    }
+}
+
+/* Begins a line of text around x. */
+static void begin_caption(int x, int y, const char *colour)
+{
+    printf("<text x=\"%d\" y=\"%d\" text-anchor=\"middle\" fill=\"%s\">", x, y, colour);
+}
+
+static void write_ring_caption(const Bag *bag, const Fill *fill, int x, int y)
+{
+    begin_caption(x, y, INK);
+    printf("%d of %d, offset %g</text>\n", bag->coins, FULL, bag->offset);
+    if (fill->range_count == 0) {
+        begin_caption(x, y + LINE, PALE_INK);
+        printf("nothing</text>\n");
+    }
+    for (size_t i = 0; i < fill->range_count; i++) {
+        begin_caption(x, y + LINE * (int)(i + 1), colours[i]);
+        printf("%s%.4g to %.4g: %.2f</text>\n", fill->whole ? "whole, " : "", fill->ranges[2 * i],
+               fill->ranges[2 * i + 1], fill->cuts[3 * i + 1]);
+    }
+}
+
+static void write_stack_caption(const Fill *fill, int x, int y)
+{
+    begin_caption(x, y, INK);
+    printf("%zu %s</text>\n", fill->copy_count, fill->copy_count == 1 ? "copy" : "copies");
+    if (fill->copy_count == 0)
+        return;
+    begin_caption(x, y + LINE, PALE_INK);
+    for (size_t i = 0; i < fill->copy_count; i++)
+        printf("%s%u", i == 0 ? "" : " ", (unsigned)fill->order[i]);
+    printf("</text>\n");
+}
+
+static void write_bag(const Panel *panel, size_t i, int top)
+{
+    const Fill *fill = &panel->fills[i];
+    int middle = MARGIN + COLUMN * (int)i + COLUMN / 2;
+    int left = middle - MIDDLE * panel->size;
+    int mouth_end = top + MOUTH_HEIGHT * panel->size;
+    int stack_top = mouth_end + CAPTION_HEIGHT;
+    printf("<g transform=\"translate(%d %d)\">\n", left, top);
+    write_frame(&panel->frame);
+    write_ring(panel, fill, bags[i].coins);
+    printf("</g>\n");
+    write_ring_caption(&bags[i], fill, middle, mouth_end + LINE);
+    printf("<g transform=\"translate(%d %d)\">\n", left, stack_top);
+    write_stack(&panel->coin, fill);
+    printf("</g>\n");
+    write_stack_caption(fill, middle, stack_top + STACK_HEIGHT * panel->size + LINE);
+}
+
+static void write_panel(const Panel *panel, int top)
+{
+    printf("<text x=\"%d\" y=\"%d\" font-weight=\"bold\" fill=\"" INK "\">Size %d: each frame measures %.9g, each ring "
+           "%.9g, each coin %.9g</text>\n",
+           MARGIN, top + LINE, panel->size, panel->frame.length, panel->ring.length, panel->coin.length);
+    for (size_t i = 0; i < BAGS; i++)
+        write_bag(panel, i, top + HEADING_HEIGHT);
+}
+
+static void write_title(void)
+{
+    static const char *const lines[] = {
+        "A frame is two round rectangles, merged. A ring is one path, which starts at the dot, trimmed to the bag's "
+        "count: below it, its visible ranges,",
+        "as parts of the path, and how long they are. A stack is one coin, repeated: below it, the order in which the "
+        "copies are drawn.",
+    };
+    printf("<text x=\"%d\" y=\"%d\" font-size=\"18\" font-weight=\"bold\" fill=\"" INK "\">The bag panel of a coin "
+           "sorter</text>\n",
+           MARGIN, MARGIN + 10);
+    for (size_t i = 0; i < COUNT(lines); i++)
+        printf("<text x=\"%d\" y=\"%d\" fill=\"" PALE_INK "\">%s</text>\n", MARGIN, MARGIN + 30 + LINE * (int)i,
+               lines[i]);
+}
+
+static void write_foot(void)
+{
+    int y = PAGE_HEIGHT - FOOT_HEIGHT + LINE;
+    printf("<text x=\"%d\" y=\"%d\" fill=\"" INK "\">Size %d compared with size 1, %zu numbers: the commands, ranges, "
+           "orders, shapes of copies and opacities are the same;</text>\n",
+           MARGIN, y, FACTOR, numbers_compared);
+    printf("<text x=\"%d\" y=\"%d\" fill=\"" INK "\">every coordinate, length, cut and shift is exactly %d times as "
+           "large.</text>\n",
+           MARGIN, y + LINE, FACTOR);
+}
+
+static void write_page(const Panel *small, const Panel *large)
+{
+    printf("<svg xmlns=\"http://www.w3.org/2000/svg\" width=\"%d\" height=\"%d\" viewBox=\"0 0 %d %d\" "
+           "font-family=\"Helvetica, Arial, sans-serif\" font-size=\"11\">\n",
+           PAGE_WIDTH, PAGE_HEIGHT, PAGE_WIDTH, PAGE_HEIGHT);
+    printf("<title>The bag panel of a coin sorter, at size 1 and at size %d</title>\n", FACTOR);
+    printf("<rect width=\"%d\" height=\"%d\" fill=\"" GROUND "\"/>\n", PAGE_WIDTH, PAGE_HEIGHT);
+    write_title();
+    write_panel(small, TITLE_HEIGHT);
+    write_panel(large, TITLE_HEIGHT + PANEL_HEIGHT(1));
+    write_foot();
+    printf("</svg>\n");
+}
+
+static void release(Panel *panel)
+{
+    Path *paths[] = {&panel->frame, &panel->ring, &panel->coin};
+    for (size_t i = 0; i < COUNT(paths); i++) {
+        free(paths[i]->codes);
+        free(paths[i]->numbers);
+    }
 }
 
 int main(void)
 {
-    size_t n, m;
-    float length;
-    uint32_t refusal =
-        jengafir_draw_path(1, circle, COUNT(circle), 4, codes, COUNT(codes), numbers, COUNT(numbers), &n, &m);
-    if (refusal != JENGAFIR_ACCEPTED) {
-        printf("refused with %u\n", (unsigned)refusal);
-        return 1;
-    }
-    jengafir_length(codes, n, numbers, m, &length);
-    printf("%zu commands, %zu numbers, length %.9g\n", n, m, length);
-
-    show("0 %", n, m, 0, 0, 0);
-    show("25 %", n, m, 0, 25, 0);
-    show("a third", n, m, 0, 100.0f / 3, 0);
-    show("100 %", n, m, 0, 100, 0);
-    show("half, from the left", n, m, 0, 50, 270);
-    show("half, turned back a quarter", n, m, 0, 50, -90);
-    show("half, turned back a hair", n, m, 25, 75, -0.0000001f);
-    show("no number", n, m, 0, 0.0f / 0.0f, 0);
+    static Panel small, large;
+    draw_panel(1, &small);
+    draw_panel(FACTOR, &large);
+    compare(&small, &large);
+    write_page(&small, &large);
+    release(&small);
+    release(&large);
+    if (fflush(stdout) != 0 || ferror(stdout))
+        fail("the page cannot be written");
     return 0;
 }
