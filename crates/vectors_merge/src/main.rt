@@ -108,7 +108,7 @@ fn run(text: &[u8]) {
 }
 
 fn main() {
-    let mut text = io::large_buffer();
+    let mut text = [0; 131072];
     let n = io::read_full(STDIN_FILENO, &mut text);
     run(&text[..n]);
 }
