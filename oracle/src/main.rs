@@ -56,6 +56,16 @@ fn argument<T: std::str::FromStr>(place: usize, otherwise: T) -> T {
     })
 }
 
+/// What C calls, by the declarations of the header.
+fn exported() -> Vec<&'static str> {
+    let after_prefix = include_str!("../../include/jengafir.h").split("jengafir_").skip(1);
+    let names = after_prefix.filter_map(|text| {
+        let end = text.find(|c: char| !c.is_ascii_alphanumeric() && c != '_')?;
+        text[end..].starts_with('(').then_some(&text[..end])
+    });
+    names.collect()
+}
+
 fn main() {
     let seed = argument(1, SEED);
     let count = argument(2, COUNT);
@@ -63,12 +73,19 @@ fn main() {
     for part in PARTS {
         part(&mut Random::new(seed), count, &mut report);
     }
-    for (name, [accepted, refused @ ..]) in &report.outcomes {
-        let met = (1..).zip(refused).filter(|(_, &times)| times > 0);
-        let met: Vec<String> = met.map(|(number, times)| format!("{number}: {times}")).collect();
-        println!("oracle: {name} accepted {accepted}, refused with {}", met.join(", "));
+    report.print_functions();
+    let (compared, others): (Vec<&str>, Vec<&str>) = exported().into_iter().partition(|name| report.has(name));
+    if cfg!(drawing) {
+        for name in others {
+            report.count(false, || format!("jengafir_{name} is compared with nothing"));
+        }
     }
-    println!("oracle: {} comparisons, {} differences, seed {seed}", report.comparisons, report.differences);
+    println!(
+        "oracle: {} comparisons over {} exported functions, {} differences, seed {seed}, count {count}",
+        report.comparisons,
+        compared.len(),
+        report.differences,
+    );
     if report.differences > 0 {
         std::process::exit(1);
     }

@@ -43,7 +43,7 @@ pub fn compare(random: &mut Random, count: usize, report: &mut Report) {
             compare_ranges(report, &mut ranges, &any_trim(random));
         }
     }
-    for _ in 0..count / RANGES {
+    for _ in 0..count.div_ceil(RANGES) {
         let trim = any_trim(random);
         compare_lengths(report, &mut lengths, &trim, &any_list(random));
     }
