@@ -2,6 +2,7 @@
 
 use crate::random::Random;
 use crate::report::{Outcomes, Report};
+use crate::sample::{bits, filled, line, Case, OLD_NUMBER};
 use crate::shapes::{any_item, any_path, edges, Input, MOST_VERTICES, RC, SH};
 use source::{BezierPath, BezierVertex, Path, ShapeItem};
 
@@ -283,4 +284,59 @@ pub fn shown_difference(ours: &Outcome, theirs: &Outcome) -> String {
         shown += &format!("; number {i} is {:08x}, not {:08x}", ours.numbers[i], theirs.numbers[i]);
     }
     shown
+}
+
+// The sample.
+
+/// So many paths are sampled, and so many item rows, each with at most so many numbers.
+const SAMPLED: usize = 40;
+const SAMPLED_NUMBERS: usize = 32;
+
+pub fn sample(random: &mut Random) -> Vec<Case> {
+    let paths: Vec<Case> = (0..SAMPLED).map(|_| sampled(random, any_path)).collect();
+    let items = (0..SAMPLED).map(|_| sampled(random, any_item));
+    paths.into_iter().chain(items).collect()
+}
+
+/// The first short input that the Rust draws, and what is drawn.
+fn sampled(random: &mut Random, any: fn(&mut Random) -> Input) -> Case {
+    loop {
+        let input = any(random);
+        let answer = answer(&input);
+        let (word, numbers) = match &input {
+            Input::Path { vertices, .. } => ("path", vertices),
+            Input::Item { numbers, .. } => ("item", numbers),
+        };
+        if answer.is_ok() && numbers.len() <= SAMPLED_NUMBERS {
+            let header = match &input {
+                Input::Path { closed, count, .. } => vec![*closed, *count as u32],
+                Input::Item { row, .. } => [&[6], &row[..6]].concat(),
+            };
+            return drawn_case(random, word, &header, numbers.len(), numbers, &answer);
+        }
+    }
+}
+
+/// A call that draws, with buffers that are full or have a place or two more. The numbers given are lent over and over,
+/// so many as the length says.
+pub fn drawn_case(
+    random: &mut Random,
+    word: &str,
+    header: &[u32],
+    length: usize,
+    given: &[f32],
+    answer: &Result<Path, u32>,
+) -> Case {
+    let nothing = Path::default();
+    let (told, Path { codes, numbers }) = match answer {
+        Ok(path) => (format!("written {} {}", path.codes.len(), path.numbers.len()), path),
+        Err(refusal) => (format!("refused {refusal}"), &nothing),
+    };
+    let more = [random.bits(1) as usize, random.between(0, 2) as usize];
+    let lengths = [length, codes.len() + more[0], numbers.len() + more[1]].map(|n| n as u32);
+    let call = line(word, header.iter().copied().chain(lengths).chain(bits(given)));
+    let codes = codes.iter().chain(std::iter::repeat_n(&0xee, more[0]));
+    let codes: String = codes.map(|code| format!(" {code:02x}")).collect();
+    let numbers = filled("numbers", bits(numbers), more[1], OLD_NUMBER.to_bits());
+    Case::new(call, format!("{told}\ncodes{codes}\n{numbers}\n"))
 }

@@ -3,6 +3,7 @@
 use crate::random::{Random, EDGES};
 use crate::report::Report;
 use crate::root::{exact_hypot, isqrt};
+use crate::sample::{bits, line, Case};
 
 extern "C" {
     fn jengafir_mul_add(a: f32, b: f32, c: f32) -> f32;
@@ -171,4 +172,69 @@ fn around_turn(random: &mut Random) -> f32 {
     let scale = 2f64.powi(random.between(0, 95) as i32);
     let turn = (random.bits(digits) as f64 * 360.0 * scale) as f32;
     random.sign() * random.nudged(turn)
+}
+
+// The sample.
+
+/// So many calls of each function are sampled.
+const SAMPLED: usize = 12;
+
+pub fn sample(random: &mut Random) -> Vec<Case> {
+    let mut cases = Vec::new();
+    for _ in 0..SAMPLED {
+        let [a, b, c] = triple(random);
+        cases.push(case("mul_add", &[a, b, c], a.mul_add(b, c)));
+        let [x, y] = pair(random);
+        cases.push(case("hypot", &[x, y], exact_hypot(x, y)));
+        let x = around_half(random);
+        cases.push(case("floor", &[x], x.floor()));
+        cases.push(case("ceil", &[x], x.ceil()));
+        cases.push(case("round", &[x], x.round()));
+        let x = random.float();
+        cases.push(case("abs", &[x], x.abs()));
+        let x = around_turn(random);
+        cases.push(case("rem", &[x], x.rem_euclid(360.0)));
+        let [x, y] = unlike(random);
+        cases.push(case("min", &[x, y], x.min(y)));
+        cases.push(case("max", &[x, y], x.max(y)));
+        let (x, low, high) = around_range(random);
+        cases.push(case("clamp", &[x, low, high], x.clamp(low, high)));
+    }
+    cases
+}
+
+/// A call whose result is printed on its own line; any NaN is `nan`.
+fn case(word: &str, operands: &[f32], result: f32) -> Case {
+    let call = line(word, bits(operands));
+    let result = if result.is_nan() { "nan".to_string() } else { format!("{:08x}", result.to_bits()) };
+    let printed = format!("{call} = {result}\n");
+    Case { call, printed }
+}
+
+/// Whether Rust tells the smaller: of equal numbers it leaves that open, and of signalling NaNs.
+fn is_told(x: f32, y: f32) -> bool {
+    let is_signalling = |x: f32| x.is_nan() && x.to_bits() & 0x400000 == 0;
+    x != y && !is_signalling(x) && !is_signalling(y)
+}
+
+/// Two numbers, beside each other half the time.
+fn unlike(random: &mut Random) -> [f32; 2] {
+    loop {
+        let x = random.float();
+        let y = if random.bits(1) == 0 { random.nudged(x) } else { random.float() };
+        if is_told(x, y) {
+            return [x, y];
+        }
+    }
+}
+
+/// A number and the ends of a range, which it is often beside.
+fn around_range(random: &mut Random) -> (f32, f32, f32) {
+    loop {
+        let [low, high] = unlike(random);
+        let x = if random.bits(1) == 0 { random.nudged(low) } else { random.float() };
+        if low < high && is_told(x, low) && is_told(x, high) {
+            return (x, low, high);
+        }
+    }
 }

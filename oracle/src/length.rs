@@ -5,6 +5,7 @@ use crate::draw::{check, shown_list};
 use crate::lists::{any_list, longest, size, LIMIT, MOST_COMMANDS};
 use crate::random::Random;
 use crate::report::{Outcomes, Report};
+use crate::sample::{bits, line, Case};
 use source::Path;
 
 extern "C" {
@@ -114,4 +115,38 @@ fn any_index(random: &mut Random, length: usize) -> usize {
 pub fn shown(list: &Path) -> String {
     let codes = &list.codes[..list.codes.len().min(30)];
     format!("{} codes {codes:?}, {}", list.codes.len(), shown_list(&list.numbers))
+}
+
+// The sample.
+
+/// So many lists are sampled, each of so many commands and of at most so many numbers.
+const SAMPLED: usize = 80;
+const SAMPLED_COMMANDS: std::ops::RangeInclusive<usize> = 2..=12;
+const SAMPLED_NUMBERS: usize = 30;
+
+pub fn sample(random: &mut Random) -> Vec<Case> {
+    let lists = (0..SAMPLED).map(|_| short_list(random));
+    let cases = lists.map(|list| {
+        let length = source::path_length(&list);
+        Case::new(list_line("measure", &[], &list), format!("length {:08x}\n", length.to_bits()))
+    });
+    cases.collect()
+}
+
+/// A short sound list.
+pub fn short_list(random: &mut Random) -> Path {
+    loop {
+        let list = any_list(random);
+        let is_short = SAMPLED_COMMANDS.contains(&list.codes.len()) && list.numbers.len() <= SAMPLED_NUMBERS;
+        if is_short && judged(&list).is_ok() {
+            return list;
+        }
+    }
+}
+
+/// The line of a call on a list: after its header the lengths, and how many codes are given.
+pub fn list_line(word: &str, header: &[u32], list: &Path) -> String {
+    let [codes, numbers] = [list.codes.len() as u32, list.numbers.len() as u32];
+    let given = list.codes.iter().map(|&code| code as u32).chain(bits(&list.numbers));
+    line(word, header.iter().copied().chain([codes, numbers, codes]).chain(given))
 }

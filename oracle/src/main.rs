@@ -18,6 +18,7 @@ mod report;
 mod root;
 #[cfg(drawing)]
 mod rows;
+mod sample;
 #[cfg(drawing)]
 mod shapes;
 #[cfg(drawing)]
@@ -51,7 +52,7 @@ const COUNT: usize = 1_000_000;
 fn argument<T: std::str::FromStr>(place: usize, otherwise: T) -> T {
     let Some(word) = std::env::args().nth(place) else { return otherwise };
     word.parse().unwrap_or_else(|_| {
-        eprintln!("oracle: '{word}' is not a number; the arguments are [seed] [count]");
+        eprintln!("oracle: '{word}' is not a number; the arguments are [seed] [count], or sample");
         std::process::exit(2);
     })
 }
@@ -66,13 +67,29 @@ fn exported() -> Vec<&'static str> {
     names.collect()
 }
 
+/// Writes the sample of the Rust's answers, all of it or none.
+fn write_sample() {
+    if !cfg!(drawing) {
+        eprintln!("oracle: the sample is not written, since the Rust text is not here");
+        std::process::exit(1);
+    }
+    if let Err(error) = sample::write() {
+        eprintln!("oracle: the sample is not written: {error}");
+        std::process::exit(1);
+    }
+}
+
 fn main() {
+    if std::env::args().nth(1).as_deref() == Some("sample") {
+        return write_sample();
+    }
     let seed = argument(1, SEED);
     let count = argument(2, COUNT);
     let mut report = Report::new();
     for part in PARTS {
         part(&mut Random::new(seed), count, &mut report);
     }
+    sample::compare(&mut report);
     report.print_functions();
     let (compared, others): (Vec<&str>, Vec<&str>) = exported().into_iter().partition(|name| report.has(name));
     if cfg!(drawing) {

@@ -1,9 +1,12 @@
 //! Compares merges: the Rust's own functions, under document 01's refusals, against ours.
 
-use crate::draw::{check, lengths, rectangle, shown_difference, shown_list, source_numbers, vertex_list, Outcome};
+use crate::draw::{check, drawn_case, lengths, rectangle, shown_difference, shown_list, source_numbers, vertex_list};
+use crate::draw::Outcome;
 use crate::random::Random;
 use crate::report::{Outcomes, Report};
-use crate::rows::{altered, any_list, List, Row, Stock, EL, GR, MM, MOST_DEPTH, MOST_ROWS, OTHER};
+use crate::rows::{altered, any_list, short_list, List, Row, Stock, EL, GR, MM, MOST_DEPTH, MOST_ROWS, OTHER};
+use crate::rows::{SHORT_GIVEN, SHORT_LENGTH};
+use crate::sample::Case;
 use crate::shapes::{MOST_VERTICES, RC, SH};
 use source::{Path, ShapeItem};
 use std::rc::Rc;
@@ -319,4 +322,41 @@ fn compare_largest(random: &mut Random, report: &mut Report, tally: &mut Tally) 
     }
     rows.push(Row::new(7, 0, 0, 0));
     judge(random, report, tally, &List::new(&rows, &items));
+}
+
+// The sample.
+
+/// So many lists are sampled in which the Rust joins, and so many in which it does not.
+const SAMPLED: [usize; 2] = [60, 20];
+
+pub fn sample(random: &mut Random) -> Vec<Case> {
+    let mut left = SAMPLED;
+    let mut cases = Vec::new();
+    while left != [0, 0] {
+        let list = short_list(random);
+        let answer = settle(&list).answer;
+        let left = match answer {
+            Ok(_) => &mut left[0],
+            Err(7) => &mut left[1],
+            Err(_) => continue,
+        };
+        if *left > 0 {
+            *left -= 1;
+            let given = &list.items[..SHORT_GIVEN];
+            cases.push(drawn_case(random, "merge", &header(&list), SHORT_LENGTH, given, &answer));
+        }
+    }
+    cases
+}
+
+/// What a line has before its numbers: how many rows, how many entries, no entry to change, and the rows.
+fn header(list: &List) -> Vec<u32> {
+    let rows = list.rows.chunks(6).map(|entries| packed(&Row::of(entries)));
+    let count = list.row_count as u32;
+    [count, 6 * count, u32::MAX, 0, count].into_iter().chain(rows).collect()
+}
+
+/// A row as one number, by hexadecimal digits: kind, hidden, depth, two of the mark, two of the place, and the count.
+fn packed(row: &Row) -> u32 {
+    row.kind << 28 | row.hidden << 24 | row.depth << 20 | row.mark << 12 | row.place << 4 | row.count
 }

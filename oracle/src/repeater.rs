@@ -3,6 +3,7 @@
 use crate::draw::check;
 use crate::random::Random;
 use crate::report::{Outcomes, Report};
+use crate::sample::{bits, filled, line, Case, OLD_NUMBER};
 use source::RepeaterStyle;
 
 extern "C" {
@@ -151,6 +152,26 @@ fn sound(numbers: &[f32; 11]) -> Result<(), u32> {
     check(numbers[8] == 0.0, 5)
 }
 
+fn count_of(numbers: &[f32; 11]) -> usize {
+    numbers[0].ceil().max(0.0) as usize
+}
+
+fn order_answer(numbers: &[f32; 11], mode: u8) -> Result<Vec<u32>, u32> {
+    sound(numbers)?;
+    Ok(source::copy_order(&style(numbers, mode)).into_iter().map(|copy| copy as u32).collect())
+}
+
+/// The bits of a copy's seven numbers, or the refusal that comes before it is known whether they fit.
+fn copy_answer(numbers: &[f32; 11], mode: u8, copy: usize) -> Result<Vec<u32>, u32> {
+    sound(numbers)?;
+    check(copy < count_of(numbers), 9)?;
+    let transform = source::copy_transform(&style(numbers, mode), copy);
+    let mut answer = transform.matrix.0.to_vec();
+    answer.push(transform.opacity);
+    check(answer.iter().all(|x| x.is_finite()), 10)?;
+    Ok(answer.into_iter().map(f32::to_bits).collect())
+}
+
 // The comparison.
 
 /// All that a call leaves behind: the number, the count, and every place of the buffer with a few past it.
@@ -195,10 +216,7 @@ fn any_length(random: &mut Random, needed: usize) -> usize {
 }
 
 fn compare_order(random: &mut Random, report: &mut Report, outcomes: &mut Outcomes, numbers: &[f32; 11], mode: u8) {
-    let answer = sound(numbers).map(|()| {
-        let order = source::copy_order(&style(numbers, mode));
-        order.into_iter().map(|copy| copy as u32).collect::<Vec<u32>>()
-    });
+    let answer = order_answer(numbers, mode);
     let length = any_length(random, answer.as_ref().map_or(4, Vec::len));
     let theirs = Left::theirs(answer, length);
     let mut ours = Left::before(length);
@@ -210,16 +228,8 @@ fn compare_order(random: &mut Random, report: &mut Report, outcomes: &mut Outcom
 }
 
 fn compare_copy(random: &mut Random, report: &mut Report, outcomes: &mut Outcomes, numbers: &[f32; 11], mode: u8) {
-    let count = sound(numbers).map(|()| numbers[0].ceil().max(0.0) as usize);
-    let copy = any_copy(random, count.unwrap_or(3));
-    let answer = count.and_then(|count| {
-        check(copy < count, 9)?;
-        let transform = source::copy_transform(&style(numbers, mode), copy);
-        let mut answer = transform.matrix.0.to_vec();
-        answer.push(transform.opacity);
-        check(answer.iter().all(|x| x.is_finite()), 10)?;
-        Ok(answer.into_iter().map(f32::to_bits).collect())
-    });
+    let copy = any_copy(random, sound(numbers).map_or(3, |()| count_of(numbers)));
+    let answer = copy_answer(numbers, mode, copy);
     let length = any_length(random, 7);
     let theirs = Left::theirs(answer, length);
     let mut ours = Left::before(length);
@@ -238,4 +248,39 @@ fn any_copy(random: &mut Random, count: usize) -> usize {
         3 => random.bits(32) as usize % count.max(1),
         _ => random.bits(3) as usize % count.max(1),
     }
+}
+
+// The sample.
+
+/// So many orders are sampled, of at most so many copies, and so many copies.
+const SAMPLED_ORDERS: usize = 20;
+const SAMPLED_ENTRIES: usize = 16;
+const SAMPLED_COPIES: usize = 60;
+
+pub fn sample(random: &mut Random) -> Vec<Case> {
+    let mut cases = Vec::new();
+    while cases.len() < SAMPLED_ORDERS {
+        let (numbers, mode) = any_repeater(random);
+        let more = random.bits(1) as usize;
+        if let Some(order) = order_answer(&numbers, mode).ok().filter(|order| order.len() <= SAMPLED_ENTRIES) {
+            cases.push(case("order", &[mode as u32], &numbers, &order, more, 0xeeee_eeee));
+        }
+    }
+    while cases.len() < SAMPLED_ORDERS + SAMPLED_COPIES {
+        let (numbers, mode) = any_repeater(random);
+        let more = random.bits(1) as usize;
+        let copy = any_copy(random, count_of(&numbers));
+        if let Ok(answer) = copy_answer(&numbers, mode, copy) {
+            cases.push(case("copy", &[mode as u32, copy as u32], &numbers, &answer, more, OLD_NUMBER.to_bits()));
+        }
+    }
+    cases
+}
+
+/// A call and what it writes to a buffer that is full or has so many places more.
+fn case(word: &str, header: &[u32], numbers: &[f32; 11], answer: &[u32], more: usize, old: u32) -> Case {
+    let length = (answer.len() + more) as u32;
+    let call = line(word, header.iter().copied().chain([length]).chain(bits(numbers)));
+    let places = filled("places", answer.iter().copied(), more, old);
+    Case::new(call, format!("written {}\n{places}\n", answer.len()))
 }

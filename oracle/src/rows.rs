@@ -119,6 +119,20 @@ impl Stock {
         Stock { items: items.into(), sound, largest, spoiled }
     }
 
+    /// Rows that have their numbers among few, which stand there over and over.
+    fn short(random: &mut Random) -> Stock {
+        let mut given = any_vertices(random, 1);
+        given.extend(any_rectangle(random));
+        let items: Vec<f32> = given.iter().copied().cycle().take(SHORT_LENGTH).collect();
+        let mut sound = Vec::new();
+        for count in [0, 0, 0, 1, 1, 2, 2, 3] {
+            let needed = if count == 0 { 5 } else { 6 * count };
+            let place = random.between(0, (SHORT_LENGTH - needed) as i64) as u32;
+            sound.push(Row { kind: if count == 0 { RC } else { SH }, place, count: count as u32, ..Row::default() });
+        }
+        Stock { items: items.into(), largest: sound[0], sound, spoiled: Vec::new() }
+    }
+
     fn source(&self, random: &mut Random) -> Row {
         let list = &self.sound;
         if random.bits(13) == 0 {
@@ -292,6 +306,25 @@ pub fn any_list(random: &mut Random, stock: &Stock) -> List {
         _ => {}
     }
     list
+}
+
+/// How many numbers a short list has, and how many of them differ: those of one vertex and one rectangle.
+pub const SHORT_LENGTH: usize = 40;
+pub const SHORT_GIVEN: usize = 6 + 5;
+const SHORT_ROWS: usize = 12;
+
+/// A list of few rows and few numbers that joins, or one with a change.
+pub fn short_list(random: &mut Random) -> List {
+    let stock = Stock::short(random);
+    loop {
+        let mut rows = joining(random, &stock);
+        if random.bits(1) == 0 {
+            change(random, &stock, &mut rows);
+        }
+        if rows.len() <= SHORT_ROWS {
+            return List::new(&rows, &stock.items);
+        }
+    }
 }
 
 fn one_of_counts(random: &mut Random) -> usize {

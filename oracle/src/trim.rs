@@ -1,10 +1,11 @@
 //! Compares trims: the Rust's own functions, under document 01's refusals, against ours.
 
 use crate::draw::check;
-use crate::length::{judged, shown};
+use crate::length::{judged, list_line, short_list, shown};
 use crate::lists::any_list;
 use crate::random::Random;
 use crate::report::{Outcomes, Report};
+use crate::sample::{bits, filled, line, Case, OLD_NUMBER};
 use source::{Path, TrimStyle};
 
 extern "C" {
@@ -158,11 +159,7 @@ impl<const N: usize> Left<N> {
 }
 
 fn compare_ranges(report: &mut Report, outcomes: &mut Outcomes, trim: &TrimStyle) {
-    let theirs = Left::<4>::theirs(finite(trim).map(|()| {
-        let (ranges, full) = source::trim_ranges(trim);
-        let ends = ranges.iter().flat_map(|&(start, end)| [start, end]).collect();
-        (ranges.len(), full, ends)
-    }));
+    let theirs = Left::<4>::theirs(visible(trim));
     let mut ours = Left::<4>::before();
     let places = ours.places.as_mut_ptr().cast();
     let (start, end, offset) = (trim.start, trim.end, trim.offset_degrees);
@@ -197,6 +194,14 @@ fn compare_lengths(report: &mut Report, outcomes: &mut Outcomes, trim: &TrimStyl
     });
 }
 
+/// How many ranges are visible, whether they are the whole path, and their ends.
+fn visible(trim: &TrimStyle) -> Result<(usize, bool, Vec<f32>), u32> {
+    finite(trim)?;
+    let (ranges, full) = source::trim_ranges(trim);
+    let ends = ranges.iter().flat_map(|&(start, end)| [start, end]).collect();
+    Ok((ranges.len(), full, ends))
+}
+
 /// The checks in document 01's order: 3, 4, those of the list, 8. Then what `trim_path` hands to its dashes.
 fn cut(trim: &TrimStyle, list: &Path) -> Result<(usize, bool, Vec<f32>), u32> {
     finite(trim)?;
@@ -218,4 +223,53 @@ fn finite(trim: &TrimStyle) -> Result<(), u32> {
 fn shown_trim(trim: &TrimStyle) -> String {
     let numbers = [trim.start, trim.end, trim.offset_degrees].map(|x| format!("{x:e} ({:08x})", x.to_bits()));
     format!("{}, mode {}", numbers.join(", "), trim.mode)
+}
+
+// The sample.
+
+/// So many trims are sampled by themselves, half of them beside a change of form, and so many with a path.
+const SAMPLED_RANGES: usize = 80;
+const SAMPLED_LENGTHS: usize = 40;
+
+/// The places of the vectors program's buffer.
+const PLACES: usize = 8;
+
+pub fn sample(random: &mut Random) -> Vec<Case> {
+    let mut cases = Vec::new();
+    while cases.len() < SAMPLED_RANGES {
+        let trim = if cases.len() % 2 == 0 { edge_trim(random) } else { any_trim(random) };
+        if let Ok(answer) = visible(&trim) {
+            cases.push(Case::new(line("ranges", header(&trim)), printed(answer)));
+        }
+    }
+    while cases.len() < SAMPLED_RANGES + SAMPLED_LENGTHS {
+        let trim = any_trim(random);
+        let list = short_list(random);
+        let answer = match cut(&trim, &list) {
+            // The Rust cuts no path that is visible whole.
+            Ok((_, true, _)) => continue,
+            Ok(answer) => format!("length {:08x} {}", source::path_length(&list).to_bits(), printed(answer)),
+            Err(8) => "refused 8\n".to_string(),
+            Err(_) => continue,
+        };
+        cases.push(Case::new(list_line("lengths", &header(&trim), &list), answer));
+    }
+    cases
+}
+
+/// A trim whose numbers are at or beside those where the answer changes its form.
+fn edge_trim(random: &mut Random) -> TrimStyle {
+    let percents = with_neighbours(PERCENTS.into_iter(), 2);
+    let offsets = with_neighbours(offsets(), 1);
+    let mut one_of = |list: &[f32]| list[random.bits(32) as usize % list.len()];
+    TrimStyle { start: one_of(&percents), end: one_of(&percents), offset_degrees: one_of(&offsets), mode: 1 }
+}
+
+fn header(trim: &TrimStyle) -> [u32; 4] {
+    [trim.start.to_bits(), trim.end.to_bits(), trim.offset_degrees.to_bits(), trim.mode as u32]
+}
+
+fn printed((count, whole, numbers): (usize, bool, Vec<f32>)) -> String {
+    let places = filled("numbers", bits(&numbers), PLACES - numbers.len(), OLD_NUMBER.to_bits());
+    format!("{} {count} mark {} {places}\n", ["nothing", "one", "two"][count], whole as u32)
 }
