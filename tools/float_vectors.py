@@ -3,7 +3,8 @@
 
 It writes crates/vectors_float/stdin, one call a line, and crates/vectors_float/stdout, the same
 line with the expected result. The expected values come from exact whole-number and fraction
-arithmetic alone: no floating-point number is computed with here.
+arithmetic alone: no floating-point number is computed with here. The sample of the Rust's answers in
+oracle/samples follows them.
 
 A line of stdin is the operation and its operands, each as the 8 hexadecimal digits of its bit
 pattern. A line of stdout is that line, ' = ', and the result's pattern, or 'nan' for any NaN.

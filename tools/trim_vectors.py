@@ -3,7 +3,8 @@
 
 It writes crates/vectors_trim/stdin, one call a line, and crates/vectors_trim/stdout, what each call
 answers. The expected values come from document 01's rules on exact numbers; the roundings are those
-of float_vectors.py, and no floating-point number is computed with here.
+of float_vectors.py, and no floating-point number is computed with here. The sample of the Rust's
+answers in oracle/samples follows them.
 
 A line of stdin is a word and numbers of 8 hexadecimal digits each, one blank before each number:
 

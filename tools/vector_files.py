@@ -29,8 +29,15 @@ def keep_files(name, count, files, usage):
         print("%s vectors: %d written" % (name, count))
 
 
+def sampled(name, kind):
+    """The sample of the Rust's answers that oracle/run writes: its calls, 'in', or what is printed for them, 'out'."""
+    return (ROOT / "oracle" / "samples" / ("%s.%s" % (name, kind))).read_text()
+
+
 def keep(name, calls, results, usage):
-    """Keeps both files of crates/vectors_NAME."""
+    """Keeps both files of crates/vectors_NAME: what is computed, and after it the sample of the Rust's answers."""
+    calls += sampled(name, "in")
+    results += sampled(name, "out")
     if len(calls) > LARGEST_INPUT:
         sys.exit("%s vectors: the input is larger than the program's buffer" % name)
     folder = ROOT / "crates" / ("vectors_" + name)
