@@ -5,3 +5,4 @@ pub mod Writes
 pub mod Enlarged
 pub mod Bounds
 pub mod Ways
+pub mod Needs

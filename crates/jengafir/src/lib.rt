@@ -9,8 +9,10 @@ ghost use Rattle.ieee.specs.Remainder.{remEuclid};
 ghost use Rattle.ieee.specs.Fused.{fma};
 ghost use Rattle.ieee.specs.Root.{hypotOf};
 ghost use Rattle.command.specs.Outcomes.{Filled, fitted};
+ghost use Rattle.command.specs.Needs.{Needed};
 ghost use Rattle.draw.specs.Paths.{drawPath};
 ghost use Rattle.draw.specs.Items.{drawItem};
+ghost use Rattle.estimate.specs.Estimate.{trayEstimate};
 ghost use Rattle.join.specs.Merge.{drawMerge};
 ghost use Rattle.judge.specs.Lists.{Located, findCommand};
 ghost use Rattle.length.specs.Lists.{Told, measureList};
@@ -111,6 +113,20 @@ pub extern "C" fn jengafir_draw_item(
     *codes_written = command::drawn_codes(drawn);
     *numbers_written = command::drawn_numbers(drawn);
     command::drawn_number(drawn)
+}
+
+#[no_mangle]
+pub extern "C" fn jengafir_tray_estimate(
+    count: usize,
+    codes_needed: &mut usize,
+    numbers_needed: &mut usize,
+) -> u32
+    ensures { λ r. ⌜ Needed (trayEstimate count) r (now («codes_needed» .exit)) (now («numbers_needed» .exit)) ⌝ }
+{
+    let need = estimate::tray_estimate(count);
+    *codes_needed = command::need_codes(need);
+    *numbers_needed = command::need_numbers(need);
+    command::need_number(need)
 }
 
 #[no_mangle]
