@@ -79,6 +79,14 @@ uint32_t jengafir_draw_item(const uint32_t *row, size_t row_len, const float *it
                             uint8_t *codes, size_t codes_len, float *numbers, size_t numbers_len,
                             size_t *codes_written, size_t *numbers_written);
 
+/* Tells how much room to set aside for a drawing of `count` vertices, 1 to 1,024: count + 2 codes and 6 * count + 2
+   numbers. jengafir_draw_path and jengafir_draw_item never write more for so many vertices, open or closed. A
+   rectangle has at most 10 codes and 34 numbers, for which the room of eight vertices is enough. jengafir_merge needs
+   at most the room of each of its sources, added up.
+   No pointer is null, and the two places do not overlap. Refuses no vertices with 1, and more than 1,024 with 2.
+   On a refusal both are 0. */
+uint32_t jengafir_tray_estimate(size_t count, size_t *codes_needed, size_t *numbers_needed);
+
 /* Joins the sources of a merge: the commands of each, one source after the other.
    A row is six entries: kind, hidden (0 or 1), depth, mark (for a path 0 if open and 1 if closed, for a merge its mode
    from 0 to 255, else 0), place and count as for jengafir_draw_item. The first row is at depth 0. A row is at most one
