@@ -113,12 +113,13 @@ static void must_accept(const char *call, uint32_t refusal)
     }
 }
 
-/* Buffers for the drawings of so many sources. A drawing of n vertices never has more than n + 2 codes and 6 n + 2
-   numbers. */
+/* Buffers for the drawings of so many sources, each with room for so many vertices. */
 static Path buffers(size_t sources, size_t vertices)
 {
-    size_t codes_needed = vertices + 2, numbers_needed = 6 * vertices + 2;
     Path path = {0};
+    size_t codes_needed, numbers_needed;
+    uint32_t refusal = jengafir_tray_estimate(vertices, &codes_needed, &numbers_needed);
+    must_accept("jengafir_tray_estimate", refusal);
     path.codes_len = sources * codes_needed;
     path.numbers_len = sources * numbers_needed;
     path.codes = malloc(path.codes_len * sizeof *path.codes);
@@ -135,7 +136,7 @@ static void measure(Path *path)
     must_accept("jengafir_length", refusal);
 }
 
-/* A round rectangle has the commands of eight vertices. */
+/* The room of eight vertices is enough for a round rectangle. */
 static Path draw_frame(const float *enlarged)
 {
     Path path = buffers(2, 8);
