@@ -2,6 +2,8 @@
 
 #[cfg(drawing)]
 mod draw;
+#[cfg(drawing)]
+mod estimate;
 mod float;
 #[cfg(drawing)]
 mod length;
@@ -34,6 +36,8 @@ const PARTS: &[Part] = &[
     float::compare,
     #[cfg(drawing)]
     draw::compare,
+    #[cfg(drawing)]
+    estimate::compare,
     #[cfg(drawing)]
     merge::compare,
     #[cfg(drawing)]
