@@ -1,5 +1,5 @@
 #!/usr/bin/env python3
-"""Makes the test vectors of drawing.
+"""Makes the test vectors of drawing and of the room that is set aside for it.
 
 It writes crates/vectors_draw/stdin, one call a line, and crates/vectors_draw/stdout, what each call
 leaves behind. The expected values come from document 01's rules on exact numbers; the roundings are
@@ -10,13 +10,15 @@ A line of stdin is a word and numbers of 8 hexadecimal digits each, one blank be
 
     path CLOSED COUNT LENGTH CODES NUMBERS X..
     item ENTRIES KIND HIDDEN DEPTH MARK PLACE COUNT LENGTH CODES NUMBERS X..
+    estimate COUNT
 
 CODES and NUMBERS are the lengths of the buffers. The patterns X, over and over, fill the LENGTH
 numbers that are lent. Of a row the first ENTRIES entries are lent.
 
-In stdout each line of stdin is followed by three lines: 'written' with the counts of codes and
-numbers, or 'refused' with the refusal's number; and then all places of both buffers. Before a
-call each place of the codes is ee and each of the numbers is c29a8000, which is -77.25.
+In stdout a drawing's line of stdin is followed by three lines: 'written' with the counts of codes
+and numbers, or 'refused' with the refusal's number; and then all places of both buffers. Before a
+call each place of the codes is ee and each of the numbers is c29a8000, which is -77.25. An
+estimate's line is followed by one: 'room' with the counts, or 'refused'.
 
     python3 tools/draw_vectors.py            write both files
     python3 tools/draw_vectors.py --check    compare both files; exit 1 where one differs
@@ -162,6 +164,15 @@ def item_outcome(row, numbers):
     return bezier_path(mark, numbers) if kind == SH else rect_path(numbers)
 
 
+def estimate_outcome(count):
+    """The codes and numbers to have room for, or the number of the refusal."""
+    if count == 0:
+        return 1
+    if count > MOST_VERTICES:
+        return 2
+    return count + 2, 6 * count + 2
+
+
 # Calls: the word and the numbers before the lengths, the lengths, the patterns given, and the outcome.
 
 class Call:
@@ -204,6 +215,14 @@ def item(row, patterns, length=None, entries=6):
     length = len(patterns) if length is None else length
     outcome = item_outcome(row[:entries], lent(patterns, length))
     return Call("item", [entries] + row, length, patterns, outcome)
+
+
+def estimate_texts(count):
+    """A line of stdin and its lines of stdout."""
+    outcome = estimate_outcome(count)
+    told = "refused %d" % outcome if isinstance(outcome, int) else "room %d %d" % outcome
+    line = "estimate %08x\n" % count
+    return line, "%s%s\n" % (line, told)
 
 
 def vertices(*points):
@@ -331,8 +350,12 @@ def row_refusals():
     yield item([SH, 0, 0, 0, 6, 1025], TRIANGLE, length=6150)
 
 
+# Numbers of vertices at the limits and beside them, and large ones whose low bits are those of a small one.
+ESTIMATED = [0, 1, 2, 3, 4, 8, 255, 256, 257, 1023, 1024, 1025, 1026, 2048, 2**16, 2**16 + 1, 2**31 + 3, 2**32 - 1]
+
+
 def vectors():
-    """Every call, with how many places the buffers have beyond what is needed."""
+    """Every drawing, with how many places the buffers have beyond what is needed."""
     rng = Random(20240301)
     for call in list(plates()) + list(rows()):
         yield from ((call, *more) for more in ((0, 0), (2, 3), (-1, 0), (0, -1), (-1, 9), (9, -1), (-99, -99)))
@@ -350,6 +373,7 @@ def vectors():
 def texts():
     """What the two files hold."""
     pairs = dict.fromkeys(call.texts(*more) for call, *more in vectors())
+    pairs.update(dict.fromkeys(estimate_texts(count) for count in ESTIMATED))
     return "".join(line for line, _ in pairs), "".join(answer for _, answer in pairs)
 
 

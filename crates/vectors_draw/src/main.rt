@@ -1,7 +1,9 @@
-// Runs the vectors of drawing: reads calls from standard input, one a line, and writes what each leaves behind.
+// Runs the vectors of drawing and of its room: reads calls from standard input, one a line, and writes what each leaves
+// behind.
 // tools/draw_vectors.py makes the lines and says how they read.
 ghost use Prim.Native.Nat.{_<_};
 use command::Drawn;
+use command::Need;
 use libc::STDIN_FILENO;
 use libc::STDOUT_FILENO;
 
@@ -75,13 +77,41 @@ fn lend(line: &[u8], list: &mut [f32], codes: &mut [u8], numbers: &mut [f32]) {
     draw(line, &list[..lent], &mut codes[..n], &mut numbers[..m]);
 }
 
-fn answer(line: &[u8]) {
+fn draw_line(line: &[u8]) {
     let mut list = [0.0; 6150];
     let mut codes = [0xee; 1030];
     let mut numbers = [-77.25; 6150];
+    lend(line, &mut list, &mut codes, &mut numbers);
+}
+
+fn print_room(codes: usize, numbers: usize) {
+    io::write_all(STDOUT_FILENO, b"room ");
+    pattern_text::print_decimal(codes);
+    io::write_all(STDOUT_FILENO, b" ");
+    pattern_text::print_decimal(numbers);
+    io::write_all(STDOUT_FILENO, b"\n");
+}
+
+fn print_need(need: Need) {
+    match need {
+        Need::Refused(refusal) => pattern_text::print_refusal(command::refusal_number(refusal)),
+        Need::Room(codes, numbers) => print_room(codes, numbers),
+    }
+}
+
+fn is_estimate(line: &[u8]) -> bool {
+    pattern_text::byte(line, 0) == b'e'
+}
+
+fn answer(line: &[u8]) {
     io::write_all(STDOUT_FILENO, line);
     io::write_all(STDOUT_FILENO, b"\n");
-    lend(line, &mut list, &mut codes, &mut numbers);
+    if is_estimate(line) {
+        let count = pattern_text::size(pattern_text::field(line, 0));
+        print_need(estimate::tray_estimate(count));
+    } else {
+        draw_line(line);
+    }
 }
 
 // Answers each line of the text that has its line end.
