@@ -2,12 +2,11 @@
 use mathlib.Core.Path.{_≡_, refl, sym, ap, ap₂, _∙_, subst}
 use mathlib.Core.Bool.{Bool, true, false, cond, _&&_}
 use mathlib.Core.List.{List, [], _∷_, _++_, map, map-append}
-use Prim.Native.Nat.{ℕ, zero, suc, _+_, _≤_, _<_}
-use native.Mathlib.Nat.{not-suc-le-zero, le-of-suc-le-suc, zero-lt-suc, le-refl}
-use native.Mathlib.Omega.{arith}
+use Prim.Native.Nat.{ℕ, zero, suc, _+_, _≤_}
+use native.Mathlib.Nat.{zero-lt-suc, le-refl}
 use lib.Dec.{leb, lit≤}
-use lib.ListN.{length, getD, take, length-map, List·getD-map}
-use lib.Ieee.{Float, nan, ofBits}
+use lib.ListN.{length, take, length-map}
+use lib.Ieee.{Float, ofBits}
 use lib.Ieee.Bits.{is-true}
 use lib.Ieee.Exact.{HasValue}
 use Rattle.ieee.specs.Limit.{within}
@@ -35,11 +34,6 @@ all-weaken q b q' b' (x ∷ xs) Q B X = (weaken q b q' b' x Q B (X .0), all-weak
 pub all-scale : (k q b : ℕ) (xs : List Float) → AllOn q b xs → AllOn q (b + k) (map (scale k) xs)
 all-scale k q b [] X = tt
 all-scale k q b (x ∷ xs) X = (scale-on k q b x (X .0), all-scale k q b xs (X .1))
-
-pub all-at : (q b : ℕ) (xs : List Float) → AllOn q b xs → (i : ℕ) → i < length xs → On q b (getD xs i nan)
-all-at q b [] X i h = absurd (not-suc-le-zero h)
-all-at q b (x ∷ xs) X zero h = X .0
-all-at q b (x ∷ xs) X (suc i) h = all-at q b xs (X .1) i (le-of-suc-le-suc h)
 
 -- ---- the codes and the numbers of an enlarged list
 enlarged-code : (k : ℕ) (c : PathCommand) → codeOf (enlarged k c) ≡ codeOf c
@@ -93,20 +87,6 @@ module _ {k q b : ℕ} {cs cs' : List PathCommand} (t : Twins k q b cs cs') wher
   pub twins-grid : AllOn q (b + k) (numbersOf cs')
   twins-grid = subst (λ (xs : List Float). AllOn q (b + k) xs) (sym twins-numbers) (all-scale k q b (numbersOf cs) (t .grid))
 
-  -- the two lists' numbers, place by place
-  pub twins-at : (i : ℕ) → i < length (numbersOf cs) → Twin k q b (getD (numbersOf cs) i nan) (getD (numbersOf cs') i nan)
-  twins-at i h = record {
-    grid = all-at q b (numbersOf cs) (t .grid) i h;
-    is = ap (λ (xs : List Float). getD xs i nan) twins-numbers ∙ List·getD-map (scale k) (numbersOf cs) i nan;
-  }
-
-  -- the limit of a command list's numbers, before and after
-  pub twins-within : b + k ≤ 22 → (i : ℕ) → i < length (numbersOf cs) → within commandLimit (getD (numbersOf cs) i nan) ≡ true
-  twins-within B i h = grid-within q b (getD (numbersOf cs) i nan) (omega arith) (all-at q b (numbersOf cs) (t .grid) i h)
-
-  pub twins-enlarged-within : b + k ≤ 22 → (i : ℕ) → i < length (numbersOf cs') → within commandLimit (getD (numbersOf cs') i nan) ≡ true
-  twins-enlarged-within B i h = grid-within q (b + k) (getD (numbersOf cs') i nan) B (all-at q (b + k) (numbersOf cs') twins-grid i h)
-
 -- ---- one command
 module _ {k q b : ℕ} where
   pub twin-close : CommandTwin k q b Close Close
@@ -127,6 +107,64 @@ module _ {k q b : ℕ} where
     command = λ i. Cubic (AX .is i) (AY .is i) (BX .is i) (BY .is i) (X .is i) (Y .is i);
     grid = (AX .grid, (AY .grid, (BX .grid, (BY .grid, (X .grid, (Y .grid, tt))))));
   }
+
+  -- one of two, by a test that is the same
+  pub twin-choice : {t t' : Bool} {c c' d d' : PathCommand} → t' ≡ t → CommandTwin k q b c c' → CommandTwin k q b d d' → CommandTwin k q b (cond t c d) (cond t' c' d')
+  twin-choice {t = t} {c = c} {c' = c'} {d = d} {d' = d'} e C D = subst (λ (z : Bool). CommandTwin k q b (cond t c d) (cond z c' d')) (sym e) (go t)
+    where
+      go : (t : Bool) → CommandTwin k q b (cond t c d) (cond t c' d')
+      go true = C
+      go false = D
+
+  -- ---- a list, command by command
+  pub twins-none : Twins k q b [] []
+  twins-none = record { commands = refl; grid = tt }
+
+  pub twins-cons : {c c' : PathCommand} {cs cs' : List PathCommand} → CommandTwin k q b c c' → Twins k q b cs cs' → Twins k q b (c ∷ cs) (c' ∷ cs')
+  twins-cons {c} {c'} {cs} {cs'} C Cs = record {
+    commands = λ i. C .command i ∷ Cs .commands i;
+    grid = all-append q b (coordinatesOf c) (numbersOf cs) (C .grid) (Cs .grid);
+  }
+
+  pub twins-append : {cs cs' ds ds' : List PathCommand} → Twins k q b cs cs' → Twins k q b ds ds' → Twins k q b (cs ++ ds) (cs' ++ ds')
+  twins-append {cs} {cs'} {ds} {ds'} Cs Ds = record {
+    commands = ap₂ (λ (xs ys : List PathCommand). xs ++ ys) (Cs .commands) (Ds .commands) ∙ sym (map-append (enlarged k) cs ds);
+    grid = subst (λ (xs : List Float). AllOn q b xs) (sym (numbers-append cs ds)) (all-append q b (numbersOf cs) (numbersOf ds) (Cs .grid) (Ds .grid));
+  }
+
+  -- one of two lists, by a test that is the same
+  pub twins-choice : {t t' : Bool} {cs cs' ds ds' : List PathCommand} → t' ≡ t → Twins k q b cs cs' → Twins k q b ds ds' → Twins k q b (cond t cs ds) (cond t' cs' ds')
+  twins-choice {t = t} {cs = cs} {cs' = cs'} {ds = ds} {ds' = ds'} e C D = subst (λ (z : Bool). Twins k q b (cond t cs ds) (cond z cs' ds')) (sym e) (go t)
+    where
+      go : (t : Bool) → Twins k q b (cond t cs ds) (cond t cs' ds')
+      go true = C
+      go false = D
+
+pub twins-weaken : (k q b q' b' : ℕ) (cs cs' : List PathCommand) → q ≤ q' → b ≤ b' → Twins k q b cs cs' → Twins k q' b' cs cs'
+twins-weaken k q b q' b' cs cs' Q B t = record { commands = t .commands; grid = all-weaken q b q' b' (numbersOf cs) Q B (t .grid) }
+
+-- ---- parts of a list
+pub all-split : (q b : ℕ) (xs ys : List Float) → AllOn q b (xs ++ ys) → AllOn q b xs × AllOn q b ys
+all-split q b [] ys A = (tt, A)
+all-split q b (x ∷ xs) ys A = let s = all-split q b xs ys (A .1) in ((A .0, s .0), s .1)
+
+pub twins-take : {k q b : ℕ} {cs cs' : List PathCommand} (n : ℕ) → Twins k q b cs cs' → Twins k q b (take n cs) (take n cs')
+twins-take {k} {q} {b} {cs} {cs'} n t = subst (λ (ds : List PathCommand). Twins k q b (take n cs) (take n ds)) (sym (t .commands)) (go n cs (t .grid))
+  where
+    go : (n : ℕ) (cs : List PathCommand) → AllOn q b (numbersOf cs) → Twins k q b (take n cs) (take n (map (enlarged k) cs))
+    go zero cs A = twins-none
+    go (suc n) [] A = twins-none
+    go (suc n) (c ∷ cs) A =
+        let s = all-split q b (coordinatesOf c) (numbersOf cs) A in
+        twins-cons (record { command = refl; grid = s .0 }) (go n cs (s .1))
+
+-- ---- outcomes
+module _ {k q b : ℕ} where
+  pub outcome-refused : (r : Refusal) → OutcomeTwin k q b (refused r) (refused r)
+  outcome-refused r = record { outcome = refl; grid = tt }
+
+  pub outcome-drawn : {cs cs' : List PathCommand} → Twins k q b cs cs' → OutcomeTwin k q b (drawn cs) (drawn cs')
+  outcome-drawn t = record { outcome = ap drawn (t .commands); grid = t .grid }
 
   -- one of two, by a test that is the same
   pub twin-choice : {t t' : Bool} {c c' d d' : PathCommand} → t' ≡ t → CommandTwin k q b c c' → CommandTwin k q b d d' → CommandTwin k q b (cond t c d) (cond t' c' d')
@@ -212,6 +250,3 @@ module _ {k q b : ℕ} where
       go (drawn cs) A =
           let C : Twins k q b cs (map (enlarged k) cs) = record { commands = refl; grid = A } in
           outcome-choice (λ i. leb (twins-codes-length C i) codes && leb (twins-numbers-length C i) numbers) (outcome-drawn C) (outcome-refused BufferTooSmall)
-
-pub outcome-weaken : (k q b q' b' : ℕ) (o o' : Outcome) → q ≤ q' → b ≤ b' → OutcomeTwin k q b o o' → OutcomeTwin k q' b' o o'
-outcome-weaken k q b q' b' o o' Q B t = record { outcome = t .outcome; grid = all-weaken q b q' b' (numbersOf (commandsOf o)) Q B (t .grid) }

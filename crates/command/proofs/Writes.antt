@@ -1,12 +1,12 @@
 -- Writing a list of commands at places of the buffers, a command at a time. The commands from place k on are still to do.
 -- Assumes nothing.
 use mathlib.Core.Path.{_≡_, refl, sym, ap, _∙_}
-use mathlib.Core.List.{List, [], _∷_, _++_}
+use mathlib.Core.List.{List, [], _∷_}
 use Prim.Native.Nat.{ℕ, suc, _+_, _^_, _≤_, _<_, zero-le}
 use native.Mathlib.Nat.{add-zero}
 use native.Mathlib.Omega.{arith}
-use lib.ListN.{length, getD, set, drop, length-append, length-set, drop-of-length-le}
-use lib.Seq.{drop-cons, sets, length-sets}
+use lib.ListN.{length, getD, set, drop, length-set, drop-of-length-le}
+use lib.Seq.{sets, length-sets}
 use lib.Ieee.{Float}
 use mir.Val.{Fits}
 use mir.Syntax.{w64}

@@ -1,7 +1,7 @@
 -- What a call that fills two buffers answers on any input, and what it then promises of its result and of both buffers. Definitions only.
 use Prim.Native.Nat.{ℕ}
 use mathlib.Core.Path.{_≡_}
-use mathlib.Core.Bool.{Bool, cond, _&&_}
+use mathlib.Core.Bool.{cond, _&&_}
 use mathlib.Core.List.{List, []}
 use lib.Dec.{leb}
 use lib.Ieee.{Float}

@@ -2,7 +2,7 @@
 use mathlib.Core.Path.{_≡_, refl}
 use mathlib.Core.List.{List, [], _∷_}
 use Prim.Native.Nat.{ℕ}
-use lib.Ieee.{Float, nan, inf, binary32, lt, le, eq, ofBits, ofFields}
+use lib.Ieee.{Float, nan, binary32, lt, le, eq, ofBits, ofFields}
 use Rattle.ieee.specs.Limit.{allWithin}
 use Rattle.command.specs.declared.Refusal.the-variants.{TooMany, OutOfRange, Unsupported, NoSuchCopy}
 use Rattle.repeater.specs.Repeater.{copyCount}

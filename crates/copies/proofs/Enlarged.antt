@@ -2,7 +2,7 @@
 -- and of the seven numbers of a copy e and f are multiplied. Assumes nothing.
 use mathlib.Core.Path.{_≡_, refl, sym, ap, _∙_}
 use mathlib.Core.Bool.{Bool, true, false, cond, _&&_, _||_}
-use mathlib.Core.List.{List, [], _∷_}
+use mathlib.Core.List.{[], _∷_}
 use Prim.Native.Nat.{ℕ, _+_, _^_, _≤_, _<_}
 use native.Mathlib.Nat.{le-refl}
 use native.Mathlib.Omega.{arith}
@@ -26,7 +26,7 @@ use Rattle.repeater.specs.Repeater.{mostOffset, copyCount, copyTransform, copyO
 use Rattle.repeater.proofs.Enlarged.{RepeaterTwin, Moved, copy-moved, count-same, opacity-same}
 use Rattle.copies.specs.declared.Verdict.{Verdict}
 use Rattle.copies.specs.declared.Verdict.the-variants.{Fault, Sound}
-use Rattle.copies.specs.Answers.{Answer, refused, answered}
+use Rattle.copies.specs.Answers.{refused, answered}
 use Rattle.copies.specs.Enlarged.{movedNumbers, movedAnswer}
 use Rattle.copies.specs.Order.{orderOf, copyOrder}
 use Rattle.copies.specs.Calls.{repeaterNumbers, repeaterLimit, isCrowded, verdictOf, after, orderAnswer, copyNumbers, allFinite, finiteAnswer, copyAnswer, transformAnswer}

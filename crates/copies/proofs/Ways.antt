@@ -7,7 +7,7 @@ use Prim.Native.Nat.{ℕ, zero, suc, _+_, _-_, _*_, _^_, _≤_, _<_, zero-le}
 use native.Mathlib.Nat.{sub-zero, mul-one, le-trans}
 use native.Mathlib.Numerals.{add-one}
 use native.Mathlib.Omega.{arith}
-use lib.Dec.{T, eqb, ltb, leb, lit≤, lit<}
+use lib.Dec.{T, eqb, lit≤, lit<}
 use lib.Ieee.{Float, nan, inf, fin, lt, le, eq, up, down, ofBits, ofFields}
 use lib.Ieee.Bits.{is-true}
 use lib.Ieee.Exact.{HasValue}
@@ -35,7 +35,6 @@ use Rattle.repeater.specs.Repeater.{mostOffset, copyCount, copyTransform, copyO
 use Rattle.copies.specs.declared.Verdict.{Verdict}
 use Rattle.copies.specs.declared.Verdict.the-variants.{Fault, Sound}
 use Rattle.copies.specs.declared.Written.{Written}
-use Rattle.copies.specs.declared.Written.the-variants.{Refused, Count}
 use Rattle.copies.specs.Answers.{Answer, refused, answered, answerNumber, answerList, fitted, Filled, writtenNumber, writtenCount}
 use Rattle.copies.specs.Order.{rising, falling, orderOf, copyOrder}
 use Rattle.copies.specs.Calls.{repeaterNumbers, isCrowded, repeaterLimit, verdictOf, after, orderAnswer, copyNumbers, allFinite, finiteAnswer, copyAnswer, transformAnswer}

@@ -2,7 +2,6 @@
 use mathlib.Core.Path.{_≡_, refl}
 use Prim.Native.Nat.{ℕ}
 use lib.Ieee.{Float, binary32, add, sub, mul, div, sum, neg, round, units, size, span, climb, odd, ofInt, ofBits, ofFields}
-use Rattle.ieee.specs.Literal.{zero32, one32}
 use Rattle.ieee.specs.Fused.{fma}
 use Rattle.ieee.specs.Root.{hypotOf, rootOf, isqrt, root}
 use Rattle.curve.specs.declared.Point.{Point}

@@ -4,7 +4,7 @@ use Prim.Native.Nat.{ℕ, suc, _+_, _≤_, _<_, zero-le}
 use native.Mathlib.Numerals.{add-one}
 use native.Mathlib.Omega.{arith}
 use lib.IntN.{pos}
-use lib.Ieee.{Float, add, div, ofInt, ofBits, round, binary32}
+use lib.Ieee.{Float, div, ofInt, ofBits, round, binary32}
 use Rattle.ieee.specs.Literal.{zero32}
 use Rattle.curve.specs.declared.Point.{Point}
 use Rattle.ieee.specs.Operators.{_⊕_}

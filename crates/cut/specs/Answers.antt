@@ -1,7 +1,7 @@
 -- What each case of an answer is to the caller, and what a call promises of its result and of the caller's places. Definitions only.
 use Prim.Native.Nat.{ℕ}
 use mathlib.Core.Path.{_≡_}
-use mathlib.Core.Bool.{Bool, cond}
+use mathlib.Core.Bool.{cond}
 use mathlib.Core.List.{List, []}
 use lib.Ieee.{Float}
 use Rattle.command.specs.declared.Refusal.{Refusal}

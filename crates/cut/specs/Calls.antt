@@ -3,8 +3,9 @@ use Prim.Native.Nat.{ℕ}
 use mathlib.Core.Bool.{Bool, cond, _&&_, _||_}
 use mathlib.Core.List.{List}
 use lib.Dec.{eqb}
-use lib.Ieee.{Float, binary32, ofBits, le}
+use lib.Ieee.{Float, le}
 use lib.Ieee.Scale.{finite}
+use Rattle.ieee.specs.Literal.{epsilon32}
 use Rattle.command.specs.declared.Refusal.the-variants.{OutOfRange, Unlisted, TooShort}
 use Rattle.length.specs.declared.Measured.{Measured}
 use Rattle.length.specs.declared.Measured.the-variants as measured
@@ -30,7 +31,7 @@ isTrimMode mode = eqb mode 1 || eqb mode 2
 
 -- 2 ^ -23, `f32::EPSILON`: a path of this length or less is too short to be cut
 abbrev pub shortest : Float
-shortest = ofBits binary32 0x3400_0000
+shortest = epsilon32
 
 -- the list is measured, then its length is looked at
 unfoldable pub trimMeasured : TrimStyle → Measured → Trimmed

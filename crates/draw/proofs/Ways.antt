@@ -1,23 +1,23 @@
 -- What each way out of a function of this crate owes, as the code meets it: a premise for each test and for each call's result.
 -- Assumes nothing.
-use mathlib.Core.Path.{_≡_, refl, sym, ap, _∙_}
+use mathlib.Core.Path.{_≡_, sym, ap, _∙_}
 use mathlib.Core.Bool.{Bool, true, false, cond, _&&_}
 use mathlib.Core.List.{List}
 use Prim.Native.Nat.{ℕ, _+_, _-_, _*_, _≤_, _<_}
 use native.Mathlib.Nat.{add-zero, le-refl}
 use native.Mathlib.Omega.{arith}
-use lib.Dec.{eqb, ltb, leb}
+use lib.Dec.{eqb, leb}
 use lib.Ieee.{Float, nan}
 use lib.ListN.{length, getD, take, drop, length-drop}
 use lib.Seq.{length-take-le, take-all, getD-drop}
-use borrow.Author.Tests.{eq-eqb, ne-eqb, eqb-false, lt-ltb, le-ltb, lt-leb, le-leb}
+use borrow.Author.Tests.{eq-eqb, ne-eqb, eqb-false, lt-ltb, le-ltb}
 use Rattle.ieee.specs.Limit.{allWithin}
 use Rattle.command.specs.declared.Refusal.{Refusal}
 use Rattle.command.specs.declared.Refusal.the-variants.{Empty, TooMany, OutOfRange, Unlisted, Unsupported, OutOfBounds}
 use Rattle.command.specs.declared.Drawn.{Drawn}
 use Rattle.command.specs.Refusals.{refusalNumber}
 use Rattle.command.proofs.Buffers.{unfilled}
-use Rattle.command.specs.Outcomes.{Outcome, Filled, refused, drawn, fitted, drawnNumber, drawnCodes, drawnNumbers}
+use Rattle.command.specs.Outcomes.{Outcome, Filled, drawn, fitted, drawnNumber, drawnCodes, drawnNumbers}
 use Rattle.rect.specs.declared.Corners.{Corners}
 use Rattle.rect.specs.Rect.{rectCorners}
 use Rattle.shape.specs.declared.Shape.{Shape}

@@ -1,9 +1,9 @@
 -- Every call answers a plate on the grid and the same plate enlarged alike, for each of the factors 2, 4, 8, 16, 32 and 64. Each law that is cited stands in the crate of the call.
 -- Assumes nothing.
 use mathlib.Core.Path.{_≡_, refl, sym, ap, ap₂, subst, _∙_}
-use mathlib.Core.Bool.{true, false}
+use mathlib.Core.Bool.{true}
 use mathlib.Core.List.{List, [], _∷_, map}
-use Prim.Native.Nat.{ℕ, zero, suc, _+_, _*_, _≤_, _<_}
+use Prim.Native.Nat.{ℕ, suc, _+_, _≤_, _<_}
 use native.Mathlib.Nat.{zero-lt-suc}
 use native.Mathlib.Omega.{arith}
 use lib.Dec.{T, lit≤}
@@ -14,9 +14,8 @@ use Rattle.ieee.proofs.Grid.{mul-pow}
 use Rattle.command.specs.declared.PathCommand.{PathCommand}
 use Rattle.command.specs.Commands.{codesOf, numbersOf}
 use Rattle.command.specs.Outcomes.{Outcome, drawn, commandsOf}
-use Rattle.command.specs.Enlarged.{AllOn, Twins, OutcomeTwin, enlarged, enlargedOutcome}
+use Rattle.command.specs.Enlarged.{AllOn, Twins, OutcomeTwin, enlarged}
 use Rattle.command.proofs.Enlarged.{enlarged-codes, enlarged-numbers}
-use Rattle.item.specs.declared.ItemRow.{ItemRow}
 use Rattle.item.specs.Rows.{itemRow}
 use Rattle.draw.specs.Paths.{drawPath}
 use Rattle.draw.specs.Items.{drawItem}
@@ -35,10 +34,7 @@ use Rattle.cut.specs.Answers.{Answer, rangesAnswer, lengthsAnswer}
 use Rattle.cut.specs.Enlarged.{CutsAlike}
 use Rattle.cut.proofs.Enlarged.{cuts-alike}
 use Rattle.repeater.specs.declared.RepeaterStyle.{RepeaterStyle}
-use Rattle.repeater.specs.Repeater.{hundred32}
 use Rattle.repeater.proofs.Enlarged.{RepeaterTwin}
-use Rattle.copies.specs.Calls.{orderAnswer, transformAnswer}
-use Rattle.copies.specs.Enlarged.{movedAnswer}
 use Rattle.copies.proofs.Enlarged.{order-same, copy-twins}
 use Rattle.enlargement.specs.Plates.{Lent, Plate, OfVertices, OfRow, OfMerge, OnGrid, GridAt, Made, of-nothing, of-vertices, of-row, of-merge, PlateOnGrid, times, enlargedRepeater, MultipliedAt, Enlarged, enlarge}
 use Rattle.enlargement.specs.Claim.{AnsweredAlike}

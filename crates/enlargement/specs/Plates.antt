@@ -6,6 +6,7 @@ use mathlib.Core.List.{List, [], map}
 use lib.IntN.{pos}
 use lib.Ieee.{Float, nan, fin, binary32, fits, mul}
 use lib.ListN.{length, getD}
+use Rattle.ieee.specs.Literal.{hundred32}
 use Rattle.ieee.specs.Grid.{On}
 use Rattle.command.specs.declared.PathCommand.{PathCommand}
 use Rattle.command.specs.Commands.{codesOf, numbersOf}
@@ -18,7 +19,6 @@ use Rattle.join.specs.Merge.{drawMerge}
 use Rattle.join.specs.Joined.{JoinedRow}
 use Rattle.trim.specs.declared.TrimStyle.{TrimStyle}
 use Rattle.repeater.specs.declared.RepeaterStyle.{RepeaterStyle}
-use Rattle.repeater.specs.Repeater.{hundred32}
 
 -- what is lent to the calls for a plate, and enlarging leaves alone
 pub record Lent : Type 0 where

@@ -1,13 +1,13 @@
 -- What each way out of a function of this crate owes, as the code meets it: a premise for each test and for each call's result, so that `search` finds it. Assumes nothing.
 use mathlib.Core.Path.{_≡_, refl, sym, ap, _∙_, subst}
-use Prim.Native.Nat.{ℕ, zero, suc, _+_, _-_, _*_, _/_, _%_, _^_, _≤_, _<_}
+use Prim.Native.Nat.{ℕ, _+_, _-_, _*_, _%_, _^_, _≤_, _<_}
 use native.Mathlib.Nat.{le-antisymm}
 use native.Mathlib.Numerals.{add-one}
 use native.Mathlib.Omega.{arith}
-use mathlib.Core.Bool.{Bool, true, false, not, _&&_, cond}
+use mathlib.Core.Bool.{Bool, true, false, not, _&&_}
 use mathlib.Core.List.{List}
 use lib.Dec.{T, leb}
-use lib.Ieee.{Float, nan, inf, fin, binary32, units, neg, lt, le, ne, eq, fits, isNan, ofBits, toBits, nanBits}
+use lib.Ieee.{Float, nan, binary32, units, neg, lt, le, ne, fits, isNan, ofBits, toBits, nanBits}
 use lib.Ieee.Bits.{ofBits-toBits, toBits-lt, is-false}
 use lib.Ieee.Exact.{HasValue}
 use lib.Ieee.Scale.{finite}
@@ -16,11 +16,10 @@ use lib.Seq.{drop-cons}
 use Rattle.ieee.specs.Sign.{abs}
 use Rattle.ieee.specs.Choice.{min, max, atLeast, atMost, clamp}
 use Rattle.ieee.specs.Limit.{within, allWithin}
-use Rattle.ieee.specs.Pattern.{withSign, dropsOf, digitsOf, infinity}
+use Rattle.ieee.specs.Pattern.{withSign, dropsOf, infinity}
 use Rattle.ieee.proofs.Value.{value-finite}
 use Rattle.ieee.proofs.Pattern.{pattern-ok, write-finite, write-inf, read-value, read-inf, read-number, abs-pattern, is-nan, is-number}
 use Rattle.ieee.proofs.Limits.{within-both}
-use Rattle.float.specs.declared.Parts.{Parts}
 use Rattle.float.specs.Parts.{PartsOf}
 
 -- ---- a pattern is read of a number, and has 32 bits

@@ -1,17 +1,16 @@
 -- Closed cases of the definitions, each computed. Assumes nothing.
 use mathlib.Core.Path.{_≡_, refl}
-use Prim.Native.Nat.{ℕ, _+_, _-_, _^_}
-use mathlib.Core.Bool.{Bool, true, false}
+use Prim.Native.Nat.{_+_, _-_, _^_}
+use mathlib.Core.Bool.{true, false}
 use lib.IntN.{pos, negsuc}
-use lib.Count.{trailingZeros}
-use lib.Ieee.{Float, nan, inf, fin, Format, binary32, add, mul, rem, lt, eq, le, sum, round, units, size, span, climb, odd, ofBits, ofFields, isNan}
-use Rattle.ieee.specs.Literal.{zero32, one32, turn32}
+use lib.Ieee.{Float, nan, inf, fin, binary32, add, mul, lt, size, ofBits, isNan}
+use Rattle.ieee.specs.Literal.{turn32}
 use Rattle.ieee.specs.Sign.{abs}
 use Rattle.ieee.specs.Choice.{min, max, clamp}
 use Rattle.ieee.specs.Whole.{floor, ceil, roundAway}
-use Rattle.ieee.specs.Remainder.{remEuclid, lifted}
+use Rattle.ieee.specs.Remainder.{remEuclid}
 use Rattle.ieee.specs.Fused.{fma}
-use Rattle.ieee.specs.Root.{hypotOf, rootOf, isqrt, root}
+use Rattle.ieee.specs.Root.{hypotOf, isqrt}
 use Rattle.ieee.specs.Cut.{cut}
 use Rattle.ieee.specs.Grid.{scale, on}
 

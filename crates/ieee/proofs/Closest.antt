@@ -1,5 +1,5 @@
 -- The whole number closest to a fraction, a tie to the even one: at a whole number, below and above a half, and how far off it can be. Assumes nothing.
-use mathlib.Core.Path.{_≡_, refl, sym, ap, _∙_}
+use mathlib.Core.Path.{_≡_, ap, _∙_}
 use Prim.Native.Nat.{ℕ, zero, suc, _+_, _-_, _*_, _/_, _%_, _≤_, _<_, compare, Ordering, Ordering·lt, Ordering·eq, Ordering·gt}
 use native.Mathlib.Nat.{zero-lt-suc, zero-mul, one-mul, mul-one, add-mul, suc-mul, div-one, mod-one, div-add-mod', mod-lt}
 use native.Mathlib.Omega.{arith}

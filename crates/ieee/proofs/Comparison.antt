@@ -1,7 +1,7 @@
 -- Comparisons by the values of their operands (`lt-at`, `eq-at`, `le-at`), and that multiplying both sides by 2 ^ k changes none. Assumes nothing.
 use mathlib.Core.Path.{_≡_, refl, sym, ap, _∙_}
 use Prim.Native.Nat.{ℕ, zero, suc, _+_, _*_, _^_, _<_}
-use native.Mathlib.Nat.{zero-mul, add-mul, mul-comm, mul-assoc, mul-left-comm, mul-right-comm, mul-pos}
+use native.Mathlib.Nat.{zero-mul, add-mul, mul-comm, mul-assoc, mul-left-comm, mul-pos}
 use mathlib.Core.Bool.{Bool, true, false, _&&_, _||_, Bool·beq}
 use lib.IntN.{ℤ}
 use lib.Dec.{ltb, eqb}

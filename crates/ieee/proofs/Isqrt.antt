@@ -1,7 +1,7 @@
 -- The whole part of a square root, the whole number nearest to a root, and a root kept to its p leading digits (`cutRoot`): bounds, and what a factor 4 ^ t does.
 -- Nothing here is about floats. Assumes nothing.
-use mathlib.Core.Path.{_≡_, refl, sym, ap, _∙_, subst}
-use Prim.Native.Nat.{ℕ, zero, suc, _+_, _-_, _*_, _/_, _%_, _^_, _≤_, _<_, zero-le, compare}
+use mathlib.Core.Path.{_≡_, sym, ap, _∙_, subst}
+use Prim.Native.Nat.{ℕ, zero, suc, _+_, _-_, _*_, _/_, _^_, _≤_, _<_, zero-le, compare}
 use native.Mathlib.Nat.{le-trans, le-of-eq, le-antisymm, lt-of-lt-of-le, lt-of-le-of-lt, zero-lt-suc, mul-comm, mul-assoc, mul-mul-mul-comm, mul-le-mul, mul-le-mul-right, lt-of-mul-lt-mul-right, le-of-mul-le-mul-right, pow-suc, pow-le-pow-left, div-div-eq-div-mul, div-lt-iff-lt-mul, div-mul-le-self, lt-div-mul-add}
 use native.Mathlib.Omega.{arith}
 use mathlib.Core.Bool.{Bool, true, false, not, cond}

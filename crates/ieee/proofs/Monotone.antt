@@ -17,7 +17,7 @@ use Rattle.ieee.specs.Literal.{zero32, one32}
 use Rattle.ieee.proofs.Round.{round-own}
 use Rattle.ieee.proofs.Operations.{unlike-false, sub-is, mul-swap}
 use Rattle.ieee.proofs.Signed.{P, N, Le, Le-mul, Le-zeros}
-use Rattle.ieee.proofs.Sum.{SumOf, sum-of, total-mul}
+use Rattle.ieee.proofs.Sum.{sum-of, total-mul}
 use Rattle.ieee.proofs.Order.{le→Le, le-number-r, le-trans, neg-le, round-le, extend}
 
 -- ---- the literals

@@ -1,10 +1,9 @@
 -- The operations by the values of their operands: any fractions that these equal serve. Products and fused products do not turn on the order of their factors. A finite sum
 -- and a finite product have finite operands. Assumes nothing.
 use mathlib.Core.Path.{_≡_, refl, sym, ap, _∙_, subst}
-use Prim.Native.Nat.{ℕ, zero, suc, _+_, _*_, _/_, _%_, _<_}
-use native.Mathlib.Nat.{lt-irrefl, zero-lt-suc, zero-mul, add-zero, mul-comm, mul-assoc, mul-left-comm, mul-right-comm, mul-mul-mul-comm, mul-pos, mul-div-cancel, mul-mod-left}
+use Prim.Native.Nat.{ℕ, zero, suc, _+_, _*_, _%_, _<_}
+use native.Mathlib.Nat.{lt-irrefl, zero-lt-suc, zero-mul, add-zero, mul-comm, mul-assoc, mul-left-comm, mul-mul-mul-comm, mul-pos, mul-div-cancel, mul-mod-left}
 use mathlib.Core.Bool.{Bool, true, false, not, Bool·beq, cond}
-use lib.IntN.{ℤ}
 use lib.Dec.{T, eqb, eqb→eq, not-T}
 use lib.Arith.{mod-mul}
 use lib.Ieee.{Float, nan, inf, fin, Format, up, down, unlike, round, neg, sum, add, sub, mul, div, rem}

@@ -1,12 +1,12 @@
 -- What `nearestRoot` and `rootOf` say, as comparisons of squares: q is nearest to √n / 2 ^ k, a tie going to the even one, just where
 -- (2 q - 1)² 4 ^ k ≤ 4 n ≤ (2 q + 1)² 4 ^ k, with equality at either end for an even q only. `rootOf` in units, and its value. Assumes nothing.
-use mathlib.Core.Path.{_≡_, refl, sym, ap, _∙_, subst}
+use mathlib.Core.Path.{_≡_, sym, ap, _∙_, subst}
 use mathlib.Core.Bool.{false}
 use Prim.Native.Nat.{ℕ, zero, suc, _+_, _-_, _*_, _/_, _%_, _^_, _≤_, _<_, compare, Ordering, Ordering·lt, Ordering·eq, Ordering·gt}
 use native.Mathlib.Nat.{le-trans, le-of-eq, le-of-lt, le-of-suc-le-suc, lt-of-le-of-lt, lt-irrefl, le-antisymm, mul-le-mul, mul-le-mul-right, le-of-mul-le-mul-right}
 use native.Mathlib.Omega.{arith}
 use lib.Dec.{T}
-use lib.Ieee.{Float, Format, prec, low, size, nearest, units, fits}
+use lib.Ieee.{Format, prec, low, size, nearest, units, fits}
 use lib.Ieee.Digits.{size-le}
 use lib.Ieee.Exact.{HasValue, units-val}
 use lib.Ieee.Scale.{overflow}
@@ -14,8 +14,7 @@ use Rattle.ieee.specs.Root.{isqrt, dropped, nearestRoot, rootOf}
 use Rattle.ieee.proofs.Digits.{sq-lt, four, four-pos, size-gt}
 use Rattle.ieee.proofs.Tests.{Cmp, cmp}
 use Rattle.ieee.proofs.Units.{units-fits}
-use Rattle.ieee.proofs.Round.{prec-pos}
-use Rattle.ieee.proofs.Isqrt.{isqrt-law, isqrt-lt, isqrt-ge, cut-low, cut-high, cutRoot, kept-root}
+use Rattle.ieee.proofs.Isqrt.{isqrt-lt, isqrt-ge, cut-low, cut-high, cutRoot, kept-root}
 
 -- ---- nearest, by squares
 pub record Near (n k q : ℕ) : Type 0 where

@@ -1,14 +1,14 @@
 -- Rounding. On a grid of 2 ^ -q `round` is `cut` (`round-cut`), so 2 ^ k times a fraction rounds to 2 ^ k times what the fraction rounds to, as data (`round-scale`);
 -- a value that the format holds is what its own fraction rounds to (`round-own`); the sign goes through (`neg-round`). Assumes nothing.
 use mathlib.Core.Path.{_≡_, refl, sym, ap, _∙_, subst}
-use Prim.Native.Nat.{ℕ, zero, suc, _+_, _-_, _*_, _/_, _%_, _^_, _≤_, _<_, compare}
-use native.Mathlib.Nat.{le-trans, le-of-eq, lt-of-lt-of-le, lt-of-le-of-lt, zero-mul, one-mul, mul-one, mul-comm, mul-assoc, mul-right-comm, mul-le-mul-right, mul-lt-mul-of-pos-right, lt-of-mul-lt-mul-right, mul-pos, mul-div-cancel, sub-add-cancel}
+use Prim.Native.Nat.{ℕ, zero, suc, _+_, _-_, _*_, _^_, _≤_, _<_}
+use native.Mathlib.Nat.{le-trans, le-of-eq, lt-of-le-of-lt, zero-mul, one-mul, mul-one, mul-comm, mul-assoc, mul-right-comm, mul-le-mul-right, mul-lt-mul-of-pos-right, lt-of-mul-lt-mul-right, mul-pos, mul-div-cancel, sub-add-cancel}
 use native.Mathlib.Omega.{arith}
 use mathlib.Core.Bool.{Bool, true, false, cond}
 use lib.IntN.{ℤ, pos, negsuc}
 use lib.Dec.{T, ltb}
-use lib.Pow.{pow-add, pow-pos, pow-mono, pow-lt}
-use lib.Ieee.{Float, nan, inf, fin, Format, prec, emax, low, up, down, size, nearest, odd, units, round, neg, fits}
+use lib.Pow.{pow-add, pow-pos, pow-lt}
+use lib.Ieee.{Float, nan, inf, fin, Format, prec, emax, low, up, down, size, odd, units, round, neg, fits}
 use lib.Ieee.Fits.{round-is, round-fits, down-pos, two, two-le-pos}
 use lib.Ieee.Exact.{HasValue, units-val, round-exact}
 use lib.Ieee.Nearest.{closest, closest-same}

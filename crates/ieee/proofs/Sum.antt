@@ -1,7 +1,7 @@
 -- `sum` sees only the values of its fractions, and rounds their total once. Assumes nothing.
 use mathlib.Core.Path.{_≡_, refl, sym, ap, _∙_}
 use Prim.Native.Nat.{ℕ, _+_, _-_, _*_, _≤_, _<_}
-use native.Mathlib.Nat.{add-comm, add-mul}
+use native.Mathlib.Nat.{add-mul}
 use native.Mathlib.Omega.{arith}
 use mathlib.Core.Bool.{Bool, true, false, not, _&&_, Bool·beq, cond}
 use lib.Dec.{T, ltb, ltb→lt, nltb→le}

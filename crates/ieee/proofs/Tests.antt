@@ -1,9 +1,9 @@
 -- Tests of whole numbers: what `compare` says, and that a common factor changes no test. Assumes nothing.
-use mathlib.Core.Path.{_≡_, refl, sym, ap, _∙_, subst}
+use mathlib.Core.Path.{_≡_, refl, ap, subst}
 use Prim.Native.Nat.{ℕ, _*_, _≤_, _<_, compare, Ordering, Ordering·lt, Ordering·eq, Ordering·gt}
 use native.Mathlib.Nat.{le-of-lt, lt-irrefl, mul-lt-mul-of-pos-right, lt-of-mul-lt-mul-right, eq-of-mul-eq-mul-right}
 use mathlib.Core.Bool.{Bool, true, false, not}
-use lib.Dec.{T, isLe, isEq, leb, ltb, eqb, leb→le, le→leb, nleb→lt, ltb→lt, lt→ltb, eqb→eq, eqb-refl}
+use lib.Dec.{T, isLe, isEq, ltb, eqb, leb→le, le→leb, nleb→lt, ltb→lt, lt→ltb, eqb→eq, eqb-refl}
 use lib.Arith.{lt-of-le-ne, lt→nleb}
 use lib.Ieee.Fits.{eq→eqb}
 

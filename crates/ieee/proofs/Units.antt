@@ -1,6 +1,6 @@
 -- `units`, a float as a number of the format's smallest values: finite below the overflow and infinite from there on, held by the format, and the same for the same number.
 -- Assumes nothing.
-use mathlib.Core.Path.{_≡_, refl, sym, ap, _∙_, subst}
+use mathlib.Core.Path.{_≡_, sym, ap, _∙_, subst}
 use Prim.Native.Nat.{ℕ, suc, _+_, _-_, _*_, _^_, _≤_, _<_}
 use native.Mathlib.Nat.{le-refl, lt-of-le-of-lt}
 use native.Mathlib.Omega.{arith}
@@ -8,7 +8,7 @@ use mathlib.Core.Bool.{Bool, true, false, not, cond}
 use lib.Dec.{T, ltb, ltb→lt, lt→ltb, nltb→le}
 use lib.Arith.{le→nltb}
 use lib.Pow.{pow-add, pow-pos, pow-mono, pow-lt}
-use lib.Ieee.{Float, inf, Format, prec, emax, low, odd, units, fits}
+use lib.Ieee.{Float, inf, Format, prec, low, odd, units, fits}
 use lib.Ieee.Fits.{odd-fits, inf-fits, two, two-le-pos}
 use lib.Ieee.Exact.{HasValue, units-val}
 use lib.Ieee.Scale.{overflow}

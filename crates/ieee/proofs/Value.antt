@@ -1,7 +1,7 @@
 -- One float and its value as a sign and a fraction. A value with a sign is written in one way (`value-unique`); the exact multiple of a float has the multiple of its
 -- value (`scale-val`), and the format holds it if it is not too large (`scale-fits`). Assumes nothing.
 use mathlib.Core.Path.{_≡_, refl, sym, ap, _∙_, subst}
-use Prim.Native.Nat.{ℕ, zero, suc, _+_, _-_, _*_, _/_, _%_, _^_, _≤_, _<_}
+use Prim.Native.Nat.{ℕ, zero, suc, _+_, _-_, _*_, _%_, _^_, _≤_, _<_}
 use native.Mathlib.Nat.{le-trans, lt-irrefl, zero-lt-suc, zero-mul, one-mul, mul-one, mul-comm, mul-assoc, mul-left-comm, mul-right-comm, mul-pos, mul-lt-mul-of-pos-right, lt-of-mul-lt-mul-right, eq-of-mul-eq-mul-right, pow-succ', le-refl}
 use native.Mathlib.Omega.{arith}
 use mathlib.Core.Bool.{Bool, true, false, not, _&&_, cond}

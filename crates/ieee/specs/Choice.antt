@@ -1,5 +1,5 @@
 -- Rust's `f32::min`, `f32::max` and `f32::clamp`. Definitions only.
-use mathlib.Core.Bool.{Bool, cond}
+use mathlib.Core.Bool.{cond}
 use lib.Ieee.{Float, lt, isNan}
 
 -- The smaller one. A NaN gives way to a number. Of two that compare equal, as -0 and +0, it is the second: Rust leaves that open.

@@ -1,6 +1,6 @@
 -- IEEE 754's fusedMultiplyAdd: x * y + z, rounded once. Definitions only.
-use Prim.Native.Nat.{ℕ, _*_}
-use mathlib.Core.Bool.{Bool, cond}
+use Prim.Native.Nat.{_*_}
+use mathlib.Core.Bool.{cond}
 use lib.Dec.{eqb}
 use lib.Ieee.{Float, nan, inf, fin, Format, unlike, up, down, sum, add}
 

@@ -12,3 +12,11 @@ one32 = ofBits binary32 0x3f80_0000
 -- 360.0, a whole turn in degrees
 abbrev pub turn32 : Float
 turn32 = ofBits binary32 0x43b4_0000
+
+-- 100.0, of per cent
+abbrev pub hundred32 : Float
+hundred32 = ofBits binary32 0x42c8_0000
+
+-- 2 ^ -23, `f32::EPSILON`
+abbrev pub epsilon32 : Float
+epsilon32 = ofBits binary32 0x3400_0000

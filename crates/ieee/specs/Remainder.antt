@@ -1,5 +1,5 @@
 -- Rust's `f32::rem_euclid`. Definitions only.
-use mathlib.Core.Bool.{Bool, cond}
+use mathlib.Core.Bool.{cond}
 use lib.Ieee.{Float, Format, add, rem, lt}
 use Rattle.ieee.specs.Literal.{zero32}
 use Rattle.ieee.specs.Sign.{abs}

@@ -1,6 +1,6 @@
 -- The root of x² + y², rounded once: a square root of whole numbers, decided by comparing integer squares. Definitions only.
 use Prim.Native.Nat.{ℕ, zero, suc, _+_, _-_, _*_, _/_, _^_, compare}
-use mathlib.Core.Bool.{Bool, true, false, cond}
+use mathlib.Core.Bool.{false, cond}
 use lib.IntN.{ℤ}
 use lib.Dec.{leb}
 use lib.Ieee.{Float, nan, inf, fin, Format, prec, low, up, down, size, nearest, units}

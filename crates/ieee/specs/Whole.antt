@@ -1,7 +1,7 @@
 -- A float to a whole number: down, up, and to the nearest one with a half away from zero. Each keeps the sign of what it is handed, so that a result of zero has it too,
 -- as in Rust's `f32::floor`, `f32::ceil` and `f32::round`. Definitions only.
 use Prim.Native.Nat.{ℕ, _+_, _*_, _/_}
-use mathlib.Core.Bool.{Bool, cond}
+use mathlib.Core.Bool.{cond}
 use lib.Dec.{ltb}
 use lib.Ieee.{Float, nan, inf, fin, Format, up, down, round}
 

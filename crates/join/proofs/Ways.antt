@@ -2,13 +2,12 @@
 -- Assumes nothing.
 use mathlib.Core.Path.{_≡_, refl, sym, ap, ap₂, _∙_}
 use mathlib.Core.Bool.{Bool, true, false, cond}
-use mathlib.Core.List.{List, [], _∷_, _++_, map, append-assoc}
+use mathlib.Core.List.{List, [], _∷_, _++_, map}
 use Prim.Native.Nat.{ℕ, zero, suc, _+_, _-_, _*_, _^_, _≤_, _<_, zero-le}
 use native.Mathlib.Nat.{zero-add, add-zero}
 use native.Mathlib.Omega.{arith}
 use mir.Val.{Fits}
 use mir.Syntax.{w64}
-use lib.Dec.{leb}
 use lib.Ieee.{Float}
 use lib.ListN.{length, take, drop, length-append}
 use lib.Seq.{sets, length-sets}
@@ -29,7 +28,7 @@ use Rattle.item.specs.declared.ItemRow.{ItemRow}
 use Rattle.item.specs.Rows.{itemRow}
 use Rattle.draw.specs.declared.Checked.{Checked}
 use Rattle.draw.specs.declared.Checked.the-variants.{Fault, Sound}
-use Rattle.draw.specs.Checks.{outcomeOf, Ready}
+use Rattle.draw.specs.Checks.{outcomeOf}
 use Rattle.draw.specs.Items.{entriesOf, itemShape, drawSource}
 use Rattle.draw.proofs.Ways.{sound-place, sound-fit, tail}
 use Rattle.draw.proofs.Sources.{DrawnSource, drawn-source, source-few, source-numbers-few}

@@ -2,12 +2,11 @@
 use mathlib.Core.Path.{_≡_, refl, sym, ap, ap₂, _∙_}
 use mathlib.Core.Bool.{Bool, true, false, cond, _&&_}
 use mathlib.Core.List.{List, [], _∷_, map}
-use Prim.Native.Nat.{ℕ, zero, suc, _+_, _≤_, _<_}
+use Prim.Native.Nat.{ℕ, zero, suc, _+_, _≤_}
 use native.Mathlib.Omega.{arith}
 use lib.Dec.{ltb}
 use lib.Ieee.{Float}
 use lib.ListN.{length, getD, take, drop}
-use borrow.Author.Tests.{lt-ltb, le-ltb}
 use Rattle.ieee.specs.Limit.{allWithin}
 use Rattle.ieee.specs.Grid.{scale}
 use Rattle.command.specs.declared.PathCommand.{PathCommand}
@@ -90,13 +89,6 @@ module _ {k q b : ℕ} {cs cs' : List PathCommand} (t : Twins k q b cs cs') wher
     pub judged-enlarged : judgeList (codesOf cs') (numbersOf cs') ≡ cond (ltb 262144 (length cs)) (refused TooMany) (drawn cs')
     judged-enlarged = judged q (b + k) cs' B (twins-grid t) ∙ ap (λ (n : ℕ). cond (ltb 262144 n) (refused TooMany) (drawn cs')) (twins-length t)
 
-    -- ---- the list
-    pub judge-twins : length cs ≤ 262144 → (judgeList (codesOf cs) (numbersOf cs) ≡ drawn cs) × (judgeList (codesOf cs') (numbersOf cs') ≡ drawn cs')
-    judge-twins h = let e = le-ltb 262144 (length cs) h in (judged-first ∙ rw e, judged-enlarged ∙ rw e)
-
-    pub judge-twins-many : 262144 < length cs → (judgeList (codesOf cs) (numbersOf cs) ≡ refused TooMany) × (judgeList (codesOf cs') (numbersOf cs') ≡ refused TooMany)
-    judge-twins-many h = let e = lt-ltb 262144 (length cs) h in (judged-first ∙ rw e, judged-enlarged ∙ rw e)
-
     -- what is the same of the refusal and of the commands is the same of the judged lists
     pub judge-alike : {A : Type 0} (f g : Outcome → A) → f (refused TooMany) ≡ g (refused TooMany) → f (drawn cs') ≡ g (drawn cs)
         → f (judgeList (codesOf cs') (numbersOf cs')) ≡ g (judgeList (codesOf cs) (numbersOf cs))
@@ -105,9 +97,6 @@ module _ {k q b : ℕ} {cs cs' : List PathCommand} (t : Twins k q b cs cs') wher
         go : (many : Bool) → f (cond many (refused TooMany) (drawn cs')) ≡ g (cond many (refused TooMany) (drawn cs))
         go true = r
         go false = d
-
-    pub number-twins : numberOf (judgeList (codesOf cs') (numbersOf cs')) ≡ numberOf (judgeList (codesOf cs) (numbersOf cs))
-    number-twins = judge-alike numberOf numberOf refl refl
 
     -- ---- one command
     module _ (j : ℕ) where

@@ -17,7 +17,6 @@ use Rattle.command.specs.declared.PathCommand.{PathCommand}
 use Rattle.command.specs.declared.Refusal.{Refusal}
 use Rattle.command.specs.declared.Refusal.the-variants.{TooMany, OutOfRange, Unlisted, OutOfBounds}
 use Rattle.command.specs.Enlarged.{commandLimit}
-use Rattle.command.specs.Refusals.{refusalNumber}
 use Rattle.command.specs.Outcomes.{Outcome, refused, drawn, numberOf}
 use Rattle.judge.specs.declared.Judged.{Judged}
 use Rattle.judge.specs.declared.Judged.the-variants.{Fault, Sound}

@@ -1,7 +1,6 @@
 -- Closed cases of the definition, each computed. Assumes nothing.
 use mathlib.Core.Path.{_≡_, refl}
-use mathlib.Core.Bool.{Bool}
-use mathlib.Core.List.{List, [], _∷_}
+use mathlib.Core.List.{[], _∷_}
 use Prim.Native.Nat.{ℕ}
 use lib.Ieee.{Float, nan, binary32, add, sub, le, neg, sum, round, units, size, span, climb, odd, ofBits, ofFields}
 use Rattle.ieee.specs.Limit.{allWithin}

@@ -1,12 +1,12 @@
 -- What each way out of a function of this crate owes, as the code meets it: a premise for each test and for each call's result.
 -- Assumes nothing.
-use mathlib.Core.Path.{_≡_, refl, sym, ap, _∙_, subst}
+use mathlib.Core.Path.{_≡_, refl, sym, ap, _∙_}
 use mathlib.Core.Bool.{Bool, true, false, cond}
 use mathlib.Core.List.{List, [], _∷_}
 use Prim.Native.Nat.{ℕ, zero, suc, _+_, _-_, _≤_, _<_}
 use native.Mathlib.Numerals.{add-one}
 use native.Mathlib.Omega.{arith}
-use lib.Dec.{T, eqb, ltb}
+use lib.Dec.{eqb, ltb}
 use lib.Ieee.{Float, nan}
 use lib.ListN.{length, getD, take, drop, length-drop, length-take, drop-of-length-le}
 use lib.Seq.{drop-cons, drop-drop}
@@ -20,7 +20,7 @@ use Rattle.command.specs.Outcomes.{Outcome, refused, drawn, commandsOf}
 use Rattle.judge.specs.declared.Judged.{Judged}
 use Rattle.judge.specs.declared.Judged.the-variants.{Fault, Sound}
 use Rattle.judge.specs.Lists.{sizeOfCode, commandAt, readList, judgeList, judgedOf}
-use Rattle.judge.proofs.Ways.{fault-sound, sound-splits}
+use Rattle.judge.proofs.Ways.{sound-splits}
 use Rattle.judge.proofs.Lists.{command-part, sound-commands, sound-read}
 use Rattle.measure.specs.declared.Pen.{Pen}
 use Rattle.measure.specs.Length.{startPen, step, steps, lengthAfter, pathLength}

@@ -1,6 +1,6 @@
 -- Closed cases of the definitions, each computed. The expected bit patterns are from exact fractions. Assumes nothing.
 use mathlib.Core.Path.{_≡_, refl}
-use mathlib.Core.List.{List, [], _∷_}
+use mathlib.Core.List.{[], _∷_}
 use Prim.Native.Nat.{ℕ}
 use lib.Ieee.{Float, binary32, add, sub, mul, div, sum, neg, round, units, size, span, climb, odd, ofInt, ofBits, ofFields}
 use Rattle.ieee.specs.Fused.{fma}

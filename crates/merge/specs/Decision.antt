@@ -1,6 +1,6 @@
 -- What a merge comes to on its rows: a refusal, or which rows are joined. Definitions only.
 use Prim.Native.Nat.{ℕ, _*_, _≤_}
-use mathlib.Core.Bool.{Bool, cond, not}
+use mathlib.Core.Bool.{cond, not}
 use mathlib.Core.List.{List}
 use lib.Dec.{ltb, eqb}
 use lib.ListN.{length}

@@ -1,6 +1,6 @@
 -- Flat rows and the nested items that they stand for.
---     children-are, group-are    empty groups decided on rows are those of the rule on items
---     whole                      nested rows read as items lose no row and keep their order
+--     children-are   empty groups decided on rows are those of the rule on items
+--     whole          nested rows read as items lose no row and keep their order
 -- Assumes nothing.
 use mathlib.Core.Path.{_≡_, refl, ap, ap₂, _∙_}
 use mathlib.Core.Bool.{Bool, true, false, cond, not, _&&_, _||_}
@@ -13,7 +13,7 @@ use Rattle.item.specs.declared.ItemRow.{ItemRow}
 use Rattle.item.specs.Rows.{isVisible, isGroup, isTransform}
 use Rattle.nest.specs.Lists.{deepestAfter, isNested}
 use Rattle.nest.specs.Items.{Items, none, more, itemsAt, rowsOf, allEmpty}
-use Rattle.nest.specs.Flat.{childrenEmpty, groupEmpty}
+use Rattle.nest.specs.Flat.{childrenEmpty}
 use Rattle.nest.proofs.Lists.{nested-first, nested-rest}
 
 -- ---- empty groups
@@ -53,10 +53,6 @@ children-are (r ∷ rs) g i =
     (children-are rs g (i + 1))
     (leb (r .depth) g)
     (eqb (r .depth) (g + 1)))
-
-pub group-are : (r : ItemRow) (rs : List ItemRow) (i : ℕ) → groupEmpty r rs ≡ (isGroup r && allEmpty (itemsAt (r .depth + 1) i rs))
-unfolding groupEmpty
-group-are r rs i = ap (λ (b : Bool). isGroup r && b) (children-are rs (r .depth) i)
 
 -- ---- nothing is lost
 

@@ -1,5 +1,5 @@
 -- The path of a rectangle on the grid of 1 / 1024, enlarged by a power of two: the same commands, with every number multiplied. Assumes nothing.
-use mathlib.Core.Path.{_≡_, refl, sym, subst}
+use mathlib.Core.Path.{refl, sym, subst}
 use Prim.Native.Nat.{ℕ, _*_, _^_, _≤_}
 use native.Mathlib.Omega.{arith}
 use lib.Dec.{T, leb, lit≤, lit<}

@@ -2,7 +2,7 @@
 use mathlib.Core.Bool.{cond}
 use mathlib.Core.List.{List, [], _∷_}
 use lib.Ieee.{Float, le, neg, ofBits, binary32}
-use Rattle.ieee.specs.Literal.{zero32}
+use Rattle.ieee.specs.Literal.{zero32, epsilon32}
 use Rattle.ieee.specs.Operators.{_⊕_, _⊖_, _⊗_}
 use Rattle.ieee.specs.Sign.{abs}
 use Rattle.ieee.specs.Choice.{min, clamp}
@@ -21,7 +21,7 @@ roundRectKappa = ofBits binary32 0x3f0d6289
 
 -- 2^-23, `f32::EPSILON`
 abbrev pub epsilon : Float
-epsilon = ofBits binary32 0x34000000
+epsilon = epsilon32
 
 -- Width and height made positive; left and top by fused -0.5 times size plus centre; right is left + width, bottom is top + height;
 -- the roundness clamped to 0 .. half the smaller side.

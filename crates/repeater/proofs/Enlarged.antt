@@ -12,7 +12,7 @@ use lib.Pow.{pow-pos}
 use lib.Ieee.{Float, nan, inf, fin, up, down, unlike, binary32, prec, fits, span, climb, size, odd, units, round, neg, sum, add, sub, mul, div, lt, isNan, ofInt, ofFields, ofBits}
 use lib.Ieee.Exact.{HasValue, round-exact}
 use lib.Ieee.Fits.{sub-fits, down-pos}
-use Rattle.ieee.specs.Literal.{zero32, one32}
+use Rattle.ieee.specs.Literal.{zero32, one32, hundred32, epsilon32}
 use Rattle.ieee.specs.Operators.{_⊕_, _⊖_, _⊗_}
 use Rattle.ieee.specs.Sign.{abs}
 use Rattle.ieee.specs.Limit.{within, Bounded}
@@ -31,7 +31,7 @@ use Rattle.count.specs.Count.{countDown, countUp}
 use Rattle.repeater.specs.declared.Matrix.{Matrix}
 use Rattle.repeater.specs.declared.RepeaterStyle.{RepeaterStyle}
 use Rattle.repeater.specs.Matrix.{identity, concat, preTranslate, preScale}
-use Rattle.repeater.specs.Repeater.{hundred32, leastScale, epsilon32, mostOffset, copyCount, stepScale, direction, stepShift, stepMatrix, stepTransform, steps, iterationTransform, copyTransform, opacityOf, copyOpacity}
+use Rattle.repeater.specs.Repeater.{leastScale, mostOffset, copyCount, stepScale, direction, stepShift, stepMatrix, stepTransform, steps, iterationTransform, copyTransform, opacityOf, copyOpacity}
 
 -- ---- the two repeaters. What no definition here reads, the mode and the rotation, is left free
 pub record RepeaterTwin (k : ℕ) (r r' : RepeaterStyle) : Type 0 where

@@ -1,15 +1,15 @@
 -- What each way out of a function of this crate owes, as the code meets it: a premise for each test and for each call's result.
 -- Assumes nothing.
 use mathlib.Core.Path.{_≡_, refl, sym, ap, _∙_, subst}
-use mathlib.Core.Bool.{Bool, true, false, cond}
-use Prim.Native.Nat.{ℕ, zero, suc, _+_, _-_, _*_, _^_, _≤_, _<_}
+use mathlib.Core.Bool.{Bool, true, false}
+use Prim.Native.Nat.{ℕ, _+_, _-_, _*_, _^_, _≤_, _<_}
 use native.Mathlib.Numerals.{add-one}
 use native.Mathlib.Omega.{arith}
 use lib.Dec.{lit≤, lit<}
 use lib.IntN.{pos}
 use lib.Ieee.{Float, nan, inf, fin, binary32, ofBits, ofInt, round, div, neg, lt, le}
 use lib.Ieee.Exact.{HasValue}
-use Rattle.ieee.specs.Literal.{zero32, one32}
+use Rattle.ieee.specs.Literal.{zero32, one32, hundred32, epsilon32}
 use Rattle.ieee.specs.Operators.{_⊕_, _⊖_, _⊗_}
 use borrow.Author.Tests.{le-leb, lt-leb}
 use Rattle.ieee.specs.Sign.{abs}
@@ -21,7 +21,7 @@ use Rattle.ieee.specs.Fused.{fma}
 use Rattle.repeater.specs.declared.Matrix.{Matrix}
 use Rattle.repeater.specs.declared.RepeaterStyle.{RepeaterStyle}
 use Rattle.repeater.specs.Matrix.{identity, concat, preTranslate, preScale}
-use Rattle.repeater.specs.Repeater.{hundred32, leastScale, epsilon32, mostOffset, copyCount, stepScale, direction, stepShift, stepMatrix, stepTransform, steps, iterationTransform, copyTransform, opacityOf, copyOpacity}
+use Rattle.repeater.specs.Repeater.{leastScale, mostOffset, copyCount, stepScale, direction, stepShift, stepMatrix, stepTransform, steps, iterationTransform, copyTransform, opacityOf, copyOpacity}
 
 -- ---- products
 pub concat-way : (m n : Matrix) → record {

@@ -4,7 +4,7 @@ use mathlib.Core.Bool.{Bool, cond}
 use lib.Dec.{leb}
 use lib.IntN.{pos}
 use lib.Ieee.{Float, binary32, ofBits, ofInt, div, neg, lt}
-use Rattle.ieee.specs.Literal.{zero32, one32}
+use Rattle.ieee.specs.Literal.{zero32, one32, hundred32, epsilon32}
 use Rattle.ieee.specs.Operators.{_⊕_, _⊖_, _⊗_}
 use Rattle.ieee.specs.Sign.{abs}
 use Rattle.ieee.specs.Limit.{within}
@@ -19,14 +19,7 @@ use Rattle.repeater.specs.Matrix.{identity, concat, preTranslate, preSca
 unfoldable pub copyCount : RepeaterStyle → ℕ
 copyCount r = countUp (r .copies)
 
--- 2 ^ -23, `f32::EPSILON`
-abbrev pub epsilon32 : Float
-epsilon32 = ofBits binary32 0x3400_0000
-
--- 100.0, and the f32 nearest to 1e-4, below which the inverse of a scale does not go
-abbrev pub hundred32 : Float
-hundred32 = ofBits binary32 0x42c8_0000
-
+-- the f32 nearest to 1e-4, below which the inverse of a scale does not go
 abbrev pub leastScale : Float
 leastScale = ofBits binary32 0x38d1_b717
 

@@ -1,5 +1,4 @@
 -- A shape that the checks let pass has at most 1,026 commands. Assumes nothing.
-use mathlib.Core.Path.{_≡_}
 use mathlib.Core.Bool.{Bool, true, false, cond}
 use mathlib.Core.List.{List}
 use Prim.Native.Nat.{_≤_}

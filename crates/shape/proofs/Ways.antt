@@ -15,7 +15,7 @@ use lib.Ieee.{Float}
 use Rattle.command.specs.declared.PathCommand.{PathCommand}
 use Rattle.command.specs.declared.PathCommand.the-variants.{Close}
 use Rattle.command.specs.Commands.{coordinatesOf, codesOf, numbersOf}
-use Rattle.command.specs.Outcomes.{Filled, Outcome, drawn, fitted}
+use Rattle.command.specs.Outcomes.{Filled, drawn, fitted}
 use Rattle.command.proofs.Passes.{counts, codes-length, numbers-few}
 use Rattle.command.proofs.Writes.{writes}
 use Rattle.command.proofs.Buffers.{sets-onto, unfilled}

@@ -1,5 +1,4 @@
 -- What a shape draws. Definitions only.
-use Prim.Native.Nat.{ℕ}
 use mathlib.Core.List.{List}
 use lib.Ieee.{Float}
 use Rattle.command.specs.declared.PathCommand.{PathCommand}

@@ -10,7 +10,7 @@ use lib.Ieee.{Float, nan, inf, fin, binary32, odd, div, lt, le, ofFields, ofBits
 use lib.Ieee.Fits.{down-pos}
 use lib.Ieee.Exact.{HasValue}
 use lib.Ieee.Scale.{finite}
-use Rattle.ieee.specs.Literal.{zero32, one32}
+use Rattle.ieee.specs.Literal.{zero32, one32, hundred32}
 use Rattle.ieee.specs.Operators.{_⊖_, _⊗_}
 use Rattle.ieee.specs.Choice.{atLeast, atMost, clamp}
 use Rattle.ieee.specs.Limit.{Bounded}
@@ -24,7 +24,7 @@ use Rattle.ieee.proofs.Bounds.{zero-bounded, bounded-number, on-bounded, clamp-
 use Rattle.command.specs.Enlarged.{AllOn}
 use Rattle.trim.specs.declared.TrimStyle.{TrimStyle}
 use Rattle.trim.specs.declared.Ranges.the-variants.{Nothing, One, Two}
-use Rattle.trim.specs.Trim.{hundred32, tenThousand32, trimStep, clampUnit, offsetOf, placedAt, snapped, near, isWhole, rangesBetween, lower, upper, normalizedTrimSegments}
+use Rattle.trim.specs.Trim.{tenThousand32, trimStep, clampUnit, offsetOf, placedAt, snapped, near, isWhole, rangesBetween, lower, upper, normalizedTrimSegments}
 use Rattle.trim.specs.Ranges.{rangeEnds}
 use Rattle.trim.proofs.Inside.{one-bounded, offset-bounded, part-number}
 

@@ -10,7 +10,7 @@ use lib.Ieee.{Float, nan, inf, fin, binary32, span, climb, size, odd, units, rou
 use lib.Ieee.Fits.{and-i, down-pos}
 use lib.Ieee.Scale.{finite}
 use lib.Ieee.Positive.{positive}
-use Rattle.ieee.specs.Literal.{zero32, one32, turn32}
+use Rattle.ieee.specs.Literal.{zero32, one32, turn32, hundred32}
 use Rattle.ieee.specs.Operators.{_⊕_, _⊖_, _⊗_}
 use Rattle.ieee.specs.Sign.{isNumber, abs}
 use Rattle.ieee.specs.Limit.{Bounded}
@@ -25,7 +25,7 @@ use Rattle.ieee.proofs.Bounds.{bounded-between, bounded-finite, zero-bounded}
 use Rattle.remainder.proofs.Turn.{rem-turn}
 use Rattle.trim.specs.declared.TrimStyle.{TrimStyle}
 use Rattle.trim.specs.declared.Ranges.the-variants.{Nothing, One, Two}
-use Rattle.trim.specs.Trim.{hundred32, tenThousand32, trimStep, clampUnit, offsetOf, placedAt, snapped, near, isWhole, rangesBetween, lower, upper, normalizedTrimSegments}
+use Rattle.trim.specs.Trim.{tenThousand32, trimStep, clampUnit, offsetOf, placedAt, snapped, near, isWhole, rangesBetween, lower, upper, normalizedTrimSegments}
 use Rattle.trim.specs.Ranges.{rangeEnds, isRange, areRanges}
 
 -- ---- the constants

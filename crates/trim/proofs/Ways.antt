@@ -1,9 +1,9 @@
 -- What each way out of a function of this crate owes, as the code meets it: a premise for each test and for each call's result.
 -- Assumes nothing.
-use mathlib.Core.Path.{_≡_, refl, sym, ap, _∙_}
-use mathlib.Core.Bool.{Bool, true, false, cond, _&&_, _||_}
+use mathlib.Core.Path.{_≡_, sym, ap, _∙_}
+use mathlib.Core.Bool.{Bool, true, false, _&&_, _||_}
 use lib.Ieee.{Float, binary32, div, lt, le}
-use Rattle.ieee.specs.Literal.{zero32, one32, turn32}
+use Rattle.ieee.specs.Literal.{zero32, one32, turn32, hundred32}
 use Rattle.ieee.specs.Operators.{_⊕_, _⊖_, _⊗_}
 use Rattle.ieee.specs.Limit.{within}
 use Rattle.ieee.specs.Remainder.{remEuclid}
@@ -11,7 +11,7 @@ use Rattle.ieee.specs.Whole.{roundAway}
 use Rattle.trim.specs.declared.TrimStyle.{TrimStyle}
 use Rattle.trim.specs.declared.Ranges.{Ranges}
 use Rattle.trim.specs.declared.Ranges.the-variants.{Nothing, One, Two}
-use Rattle.trim.specs.Trim.{hundred32, tenThousand32, trimStep, clampUnit, offsetOf, placedAt, snapped, near, nearBoth, isWhole, rangesBetween, lower, upper, normalizedTrimSegments, isFullTrimSegments}
+use Rattle.trim.specs.Trim.{tenThousand32, trimStep, clampUnit, offsetOf, placedAt, snapped, near, nearBoth, isWhole, rangesBetween, lower, upper, normalizedTrimSegments, isFullTrimSegments}
 
 -- ---- places on the path
 pub offset-way : (degrees r : Float) → r ≡ remEuclid binary32 degrees turn32 → div binary32 r turn32 ≡ offsetOf degrees

@@ -1,7 +1,7 @@
 -- The visible ranges of a trim: `normalized_trim_segments` and `is_full_trim_segments` of drawing_paths.rs, operation by operation. Definitions only.
 use mathlib.Core.Bool.{Bool, false, cond, _&&_, _||_}
 use lib.Ieee.{Float, binary32, ofBits, div, lt, le}
-use Rattle.ieee.specs.Literal.{zero32, one32, turn32}
+use Rattle.ieee.specs.Literal.{zero32, one32, turn32, hundred32}
 use Rattle.ieee.specs.Operators.{_⊕_, _⊖_, _⊗_}
 use Rattle.ieee.specs.Choice.{clamp}
 use Rattle.ieee.specs.Limit.{within}
@@ -10,10 +10,6 @@ use Rattle.ieee.specs.Whole.{roundAway}
 use Rattle.trim.specs.declared.TrimStyle.{TrimStyle}
 use Rattle.trim.specs.declared.Ranges.{Ranges}
 use Rattle.trim.specs.declared.Ranges.the-variants.{Nothing, One, Two}
-
--- 100.0
-abbrev pub hundred32 : Float
-hundred32 = ofBits binary32 0x42c8_0000
 
 -- 10000.0
 abbrev pub tenThousand32 : Float

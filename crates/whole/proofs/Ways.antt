@@ -1,6 +1,6 @@
 -- What each way out of a function of this crate owes, as the code meets it: a premise for each test and for each call's result, so that `search` finds it. Assumes nothing.
 use mathlib.Core.Path.{_≡_, refl, sym, ap, _∙_, subst}
-use Prim.Native.Nat.{ℕ, zero, suc, _+_, _-_, _*_, _/_, _%_, _^_, _≤_, _<_}
+use Prim.Native.Nat.{ℕ, suc, _+_, _-_, _*_, _/_, _%_, _^_, _≤_, _<_}
 use native.Mathlib.Nat.{le-trans, le-of-eq, le-of-lt, lt-of-lt-of-le, lt-of-le-of-lt, add-zero, zero-mul, one-mul, mul-assoc, mul-left-comm, mul-le-mul-left, mul-pos, zero-lt-suc, mod-eq-of-lt, div-mul-le-self, div-lt-iff-lt-mul, pow-succ'}
 use native.Mathlib.Omega.{arith}
 use mathlib.Core.Bool.{Bool, true, false, not, cond}
@@ -8,7 +8,7 @@ use borrow.Author.Tests.{not-true, not-false, lt-ltb, le-ltb}
 use lib.IntN.{pos}
 use lib.Dec.{T, ltb, le→leb}
 use lib.Pow.{pow-add, pow-pos, pow-mono, pow-lt, shl-exact, shr-lt}
-use lib.Ieee.{Float, Format, binary32, round, neg, ofInt, inFloat, fits}
+use lib.Ieee.{Float, binary32, round, neg, ofInt, inFloat, fits}
 use lib.Ieee.Nearest.{div-same}
 use lib.Ieee.Exact.{HasValue}
 use Rattle.ieee.specs.Whole.{wholeDown, wholeUp, wholeNear, floor, ceil, roundAway}
