@@ -24,8 +24,8 @@ use Rattle.estimate.specs.Estimate.{trayEstimate}
 use Rattle.merge.specs.Decision.{decision}
 use Rattle.join.specs.Merge.{drawMerge}
 use Rattle.join.proofs.Enlarged.{merge-outcome}
-use Rattle.judge.specs.Lists.{findCommand, commandPart}
-use Rattle.judge.proofs.Enlarged.{found-twins, part-twins}
+use Rattle.judge.specs.Lists.{findCommand, commandFault, commandPart}
+use Rattle.judge.proofs.Enlarged.{found-twins, fault-twins, part-twins}
 use Rattle.length.specs.Lists.{measureList}
 use Rattle.length.specs.Enlarged.{enlargedMeasured}
 use Rattle.length.proofs.Enlarged.{measured-twins}
@@ -37,7 +37,7 @@ use Rattle.repeater.specs.declared.RepeaterStyle.{RepeaterStyle}
 use Rattle.repeater.proofs.Enlarged.{RepeaterTwin}
 use Rattle.copies.proofs.Enlarged.{order-same, copy-twins}
 use Rattle.enlargement.specs.Plates.{Lent, Plate, OfVertices, OfRow, OfMerge, OnGrid, GridAt, Made, of-nothing, of-vertices, of-row, of-merge, PlateOnGrid, times, enlargedRepeater, MultipliedAt, Enlarged, enlarge}
-use Rattle.enlargement.specs.Claim.{AnsweredAlike}
+use Rattle.enlargement.specs.Claim.{AnsweredAlike, EnlargedAlike}
 
 -- ---- numbers
 
@@ -147,8 +147,8 @@ module _ (k : ℕ) (K : k ≤ 6) (p p' : Plate) (G : PlateOnGrid p) (E : Enlarge
   unfolding enlargedRepeater
   mode-same = ap (λ (r : RepeaterStyle). r .mode) (E .repeater)
 
-  pub answered-alike : AnsweredAlike k p p'
-  answered-alike = record {
+  answered : AnsweredAlike k p p'
+  answered = record {
     path-drawn =
         rw (E .lent)
         (path-alike k K (p .lent .closed) (p .lent .count) (p .vertices) (p' .vertices) (multiplied-twins k K (OfVertices (p .lent .count)) (p .vertices) (p' .vertices) (G .vertices) (E .vertices)) .outcome);
@@ -166,6 +166,9 @@ module _ (k : ℕ) (K : k ≤ 6) (p p' : Plate) (G : PlateOnGrid p) (E : Enlarge
     command-found =
         (λ i. findCommand (codes-enlarged i) (numbers-enlarged i) (E .lent i .command)) ∙ found-twins lists small (p .lent .command)
         ∙ sym (λ i. findCommand (codes-first i) (G .numbers-are i) (p .lent .command));
+    command-fault =
+        (λ i. commandFault (codes-enlarged i) (numbers-enlarged i) (E .lent i .command)) ∙ fault-twins lists small (p .lent .command)
+        ∙ sym (λ i. commandFault (codes-first i) (G .numbers-are i) (p .lent .command));
     command-numbers =
         (λ i. commandPart (codes-enlarged i) (numbers-enlarged i) (E .lent i .command)) ∙ part-twins lists small (p .lent .command)
         ∙ sym (λ i. map (scale k) (commandPart (codes-first i) (G .numbers-are i) (p .lent .command)));
@@ -181,6 +184,10 @@ module _ (k : ℕ) (K : k ≤ 6) (p p' : Plate) (G : PlateOnGrid p) (E : Enlarge
     where
       small : 16 + k ≤ 22
       small = omega arith
+
+-- the third demand
+pub answered-alike : EnlargedAlike
+answered-alike = answered
 
 -- ---- a plate enlarged by multiplying every number
 

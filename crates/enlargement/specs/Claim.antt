@@ -1,4 +1,4 @@
--- What it is that every call answers a plate and the same plate enlarged alike: the third demand of the mission, as one record with a field for each call.
+-- The third demand of the mission, whole: every call answers a plate on the grid and the same plate enlarged by 2, 4, 8, 16, 32 or 64 alike. `AnsweredAlike` is one record with a field for each call:
 --
 --   drawing                     the same refusal, or the same codes and every coordinate multiplied
 --   tray estimate               the same
@@ -12,10 +12,10 @@
 --   copy transform              the same refusal, or the same a, b, c, d and opacity, and the shift e, f multiplied
 --
 -- 'Multiplied' is `scale k`: the float whose value is exactly 2 ^ k times as large, a zero keeping its sign (crates/ieee/specs/Grid.antt).
--- The answers are compared before the size of the caller's buffers is asked; what they then are in a buffer is `Filled`, `Placed` and `Told` of the calls' own promises,
--- which hold each exported function to the definitions that stand here.
--- Definitions only.
-use Prim.Native.Nat.{ℕ}
+-- The answers stand here without the last check, 11, which asks the size of the caller's buffers: specs/Buffers.antt says the same of what the calls put into buffers that are large enough.
+-- Each exported function promises (crates/jengafir) that what it hands back is what these definitions say, so the claim is one about the definitions of the second demand.
+-- The proof is proofs/Claim.antt; proofs/Example.antt is a plate that meets the conditions. Definitions only.
+use Prim.Native.Nat.{ℕ, _≤_}
 use mathlib.Core.Path.{_≡_}
 use mathlib.Core.List.{map}
 use Rattle.ieee.specs.Grid.{scale}
@@ -25,7 +25,7 @@ use Rattle.draw.specs.Items.{drawItem}
 use Rattle.estimate.specs.Estimate.{trayEstimate}
 use Rattle.merge.specs.Decision.{decision}
 use Rattle.join.specs.Merge.{drawMerge}
-use Rattle.judge.specs.Lists.{findCommand, commandPart}
+use Rattle.judge.specs.Lists.{findCommand, commandFault, commandPart}
 use Rattle.length.specs.Lists.{measureList}
 use Rattle.length.specs.Enlarged.{enlargedMeasured}
 use Rattle.cut.specs.Calls.{trimRanges, trimLengths}
@@ -33,8 +33,9 @@ use Rattle.cut.specs.Answers.{rangesAnswer, lengthsAnswer}
 use Rattle.cut.specs.Enlarged.{CutsAlike}
 use Rattle.copies.specs.Calls.{orderAnswer, transformAnswer}
 use Rattle.copies.specs.Enlarged.{movedAnswer}
-use Rattle.enlargement.specs.Plates.{Plate}
+use Rattle.enlargement.specs.Plates.{Plate, PlateOnGrid, Enlarged}
 
+-- every call's answers about p and p'
 pub record AnsweredAlike (k : ℕ) (p p' : Plate) : Type 0 where
   pub path-drawn : drawPath (p' .lent .closed) (p' .vertices) (p' .lent .count) ≡ enlargedOutcome k (drawPath (p .lent .closed) (p .vertices) (p .lent .count))
   pub item-drawn : drawItem (p' .lent .row) (p' .items) ≡ enlargedOutcome k (drawItem (p .lent .row) (p .items))
@@ -43,8 +44,13 @@ pub record AnsweredAlike (k : ℕ) (p p' : Plate) : Type 0 where
   pub merge-drawn : drawMerge (p' .lent .rows) (p' .lent .rowCount) (p' .items) ≡ enlargedOutcome k (drawMerge (p .lent .rows) (p .lent .rowCount) (p .items))
   pub length-measured : measureList (p' .lent .codes) (p' .numbers) ≡ enlargedMeasured k (measureList (p .lent .codes) (p .numbers))
   pub command-found : findCommand (p' .lent .codes) (p' .numbers) (p' .lent .command) ≡ findCommand (p .lent .codes) (p .numbers) (p .lent .command)
+  pub command-fault : commandFault (p' .lent .codes) (p' .numbers) (p' .lent .command) ≡ commandFault (p .lent .codes) (p .numbers) (p .lent .command)
   pub command-numbers : commandPart (p' .lent .codes) (p' .numbers) (p' .lent .command) ≡ map (scale k) (commandPart (p .lent .codes) (p .numbers) (p .lent .command))
   pub ranges : rangesAnswer (trimRanges (p' .lent .trim)) ≡ rangesAnswer (trimRanges (p .lent .trim))
   pub cut-lengths : CutsAlike k (lengthsAnswer (trimLengths (p .lent .trim) (p .lent .codes) (p .numbers))) (lengthsAnswer (trimLengths (p' .lent .trim) (p' .lent .codes) (p' .numbers)))
   pub copy-order : orderAnswer (p' .repeater) ≡ orderAnswer (p .repeater)
   pub copy-transform : transformAnswer (p' .repeater) (p' .lent .copy) ≡ movedAnswer k (transformAnswer (p .repeater) (p .lent .copy))
+
+-- the claim: for each exponent up to 6, that is for the factors 2, 4, 8, 16, 32 and 64
+abbrev pub EnlargedAlike : Type 0
+EnlargedAlike = (k : ℕ) → k ≤ 6 → (p p' : Plate) → PlateOnGrid p → Enlarged k p p' → AnsweredAlike k p p'
