@@ -1,17 +1,15 @@
 -- Calls that answer two plates alike fill the caller's buffers alike. Assumes nothing.
 use Prim.Native.Nat.{ℕ}
-use mathlib.Core.Path.{_≡_, refl, sym, ap, subst, _∙_}
+use mathlib.Core.Path.{_≡_, refl, sym, ap, _∙_}
 use mathlib.Core.Bool.{Bool, true, false, cond, _&&_}
 use mathlib.Core.List.{List, [], _∷_, map}
 use lib.Dec.{leb}
 use lib.Ieee.{Float}
 use lib.ListN.{length, length-map}
 use Rattle.ieee.specs.Grid.{scale}
-use Rattle.command.specs.declared.PathCommand.{PathCommand}
-use Rattle.command.specs.declared.Refusal.{Refusal}
 use Rattle.command.specs.declared.Refusal.the-variants.{BufferTooSmall}
 use Rattle.command.specs.Commands.{codesOf, numbersOf}
-use Rattle.command.specs.Outcomes.{Outcome, refused, drawn, numberOf, commandsOf, fitted}
+use Rattle.command.specs.Outcomes.{Outcome, refused, drawn, fitted}
 use Rattle.command.specs.Enlarged.{enlarged, enlargedOutcome}
 use Rattle.command.proofs.Enlarged.{enlarged-codes, enlarged-numbers}
 use Rattle.copies.specs.Answers as copies

@@ -1,3 +1,4 @@
 -- The claim, proved.
 pub mod Claim
 pub mod Buffers
+pub mod Example
