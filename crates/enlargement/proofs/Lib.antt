@@ -2,3 +2,4 @@
 pub mod Claim
 pub mod Buffers
 pub mod Example
+pub mod Single
