@@ -129,7 +129,7 @@ refused-alike k r other = record {
 }
 
 -- what the checks of the trim and of the list leave
-abbrev answerOf : Ranges → Bool → Bool → Bool → Bool → List Float → Answer
+abbrev pub answerOf : Ranges → Bool → Bool → Bool → Bool → List Float → Answer
 answerOf ranges x y z s numbers = cond x (cond y (cond z (refused TooMany) (cond s (refused TooShort) (answered ranges numbers))) (refused Unlisted)) (refused OutOfRange)
 
 chain-alike : (k : ℕ) (ranges : Ranges) (cuts cuts' : List Float) (x y z s s' : Bool) → (s ≡ false → s' ≡ false) → (x ≡ true → cuts' ≡ map (scale k) cuts)
@@ -163,11 +163,11 @@ chain-alike k ranges cuts cuts' true true false false false longer multiplied = 
 
 module _ (trim : TrimStyle) where
   -- a list's answer, by whether it has too many commands
-  abbrev answerFor : Bool → Float → Answer
+  abbrev pub answerFor : Bool → Float → Answer
   answerFor z total =
       answerOf (normalizedTrimSegments trim) (isFiniteTrim trim) (isTrimMode (trim .mode)) z (le total shortest) (cutAll total (rangeEnds (normalizedTrimSegments trim)))
 
-  answer-is : (cs : List PathCommand) (z : Bool) → judgeList (codesOf cs) (numbersOf cs) ≡ cond z (outcomes.refused TooMany) (drawn cs)
+  pub answer-is : (cs : List PathCommand) (z : Bool) → judgeList (codesOf cs) (numbersOf cs) ≡ cond z (outcomes.refused TooMany) (drawn cs)
       → lengthsAnswer (trimLengths trim (codesOf cs) (numbersOf cs)) ≡ answerFor z (pathLength cs)
   unfolding lengthsAnswer trimLengths trimMeasured measureList measuredOf
   answer-is cs z e = rw e (go (isFiniteTrim trim) (isTrimMode (trim .mode)) z (le (pathLength cs) shortest))
@@ -186,7 +186,7 @@ module _ (trim : TrimStyle) where
           ends false = refl
 
   -- a trim with finite numbers has its ends on the grid of 2 ^ -37
-  finite-ends : isFiniteTrim trim ≡ true → AllOn 37 0 (rangeEnds (normalizedTrimSegments trim))
+  pub finite-ends : isFiniteTrim trim ≡ true → AllOn 37 0 (rangeEnds (normalizedTrimSegments trim))
   unfolding isFiniteTrim
   finite-ends e = go (finite (trim .start)) refl (finite (trim .end)) refl (finite (trim .«offset_degrees»)) refl e
     where

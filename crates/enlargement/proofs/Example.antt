@@ -35,6 +35,7 @@ use Rattle.copies.specs.Answers.{answered}
 use Rattle.copies.specs.Calls.{isCrowded, verdictOf, after, copyNumbers, allFinite, finiteAnswer, copyAnswer, transformAnswer}
 use Rattle.enlargement.specs.Plates.{Lent, Plate, OnGrid, GridAt, of-vertices, PlateOnGrid, enlarge}
 use Rattle.enlargement.specs.Claim.{AnsweredAlike}
+use Rattle.enlargement.specs.Buffers.{FilledAlike}
 use Rattle.enlargement.proofs.Claim.{plate-enlarged}
 
 -- ---- the plate
@@ -131,7 +132,6 @@ example-on-grid = record {
   made = of-vertices 1 3 triangle sides (all-on-grid _ triangle tt) triangle-drawn;
   codes-are = refl;
   numbers-are = refl;
-  single = λ i h. all-on-grid (λ _. Unit) (numbersOf sides) tt i tt h .single;
   scale-x = refl;
   scale-y = refl;
   position-x = on-grid ten tt;
@@ -140,7 +140,7 @@ example-on-grid = record {
   anchor-y = on-grid four tt;
 }
 
-pub example-alike : (k : ℕ) → k ≤ 6 → AnsweredAlike k plate (enlarge k plate)
+pub example-alike : (k : ℕ) → k ≤ 6 → AnsweredAlike k plate (enlarge k plate) × FilledAlike k plate (enlarge k plate)
 example-alike k K = plate-enlarged k K plate example-on-grid
 
 -- ---- its answers, and those about the plate four times as large

@@ -1,5 +1,6 @@
 -- The claim, proved.
-pub mod Claim
-pub mod Buffers
-pub mod Example
 pub mod Single
+pub mod Numbers
+pub mod Buffers
+pub mod Claim
+pub mod Example

@@ -1,8 +1,8 @@
 -- Every number that the calls answer is an f32: it is lent, or an operation rounded it. Assumes nothing.
 use Prim.Native.Nat.{ℕ, zero, suc, _+_, _-_, _*_, _≤_, _<_}
-use native.Mathlib.Nat.{zero-lt-suc, le-of-suc-le-suc}
+use native.Mathlib.Nat.{zero-lt-suc}
 use native.Mathlib.Omega.{arith}
-use mathlib.Core.Path.{_≡_, refl, sym, ap, subst, _∙_}
+use mathlib.Core.Path.{_≡_, refl, sym, ap, subst}
 use mathlib.Core.Bool.{Bool, true, false, Bool·beq, cond, _&&_}
 use mathlib.Core.List.{List, [], _∷_, _++_, map}
 use borrow.Author.Tests.{ltb-false}
@@ -26,7 +26,7 @@ use Rattle.command.specs.Commands.{coordinatesOf, numbersOf}
 use Rattle.command.specs.Outcomes.{Outcome, refused, drawn, commandsOf}
 use Rattle.command.proofs.Passes.{numbers-append}
 use Rattle.path.specs.declared.BezierVertex.{BezierVertex}
-use Rattle.path.specs.Path.{vertexAt, verticesOf, outX, outY, inX, inY, isLine, bezierSegment, bezierSegments, bezierPath, pathCommands}
+use Rattle.path.specs.Path.{verticesOf, outX, outY, inX, inY, isLine, bezierSegment, bezierSegments, bezierPath, pathCommands}
 use Rattle.rect.specs.declared.Corners.{Corners}
 use Rattle.rect.specs.Rect.{half, epsilon, rectCorners, plainRect, tangentOf, roundRect, rectPath}
 use Rattle.shape.specs.declared.Shape.the-variants.{Path, Rect}
@@ -58,9 +58,9 @@ abbrev pub AllSingle : List Float → Type 0
 AllSingle [] = Unit {0}
 AllSingle (x ∷ xs) = Single x × AllSingle xs
 
-all-append : (xs ys : List Float) → AllSingle xs → AllSingle ys → AllSingle (xs ++ ys)
-all-append [] ys X Y = Y
-all-append (x ∷ xs) ys X Y = (X .0, all-append xs ys (X .1) Y)
+pub single-append : (xs ys : List Float) → AllSingle xs → AllSingle ys → AllSingle (xs ++ ys)
+single-append [] ys X Y = Y
+single-append (x ∷ xs) ys X Y = (X .0, single-append xs ys (X .1) Y)
 
 -- ---- operations
 plus : (x y : Float) → Single (x ⊕ y)
@@ -111,7 +111,7 @@ segment-single a b X Y = go (isLine a b)
 segments-single : (a : BezierVertex) (bs : List BezierVertex) → AllEnds bs → AllSingle (numbersOf (bezierSegments a bs))
 unfolding bezierSegments
 segments-single a [] E = tt
-segments-single a (b ∷ bs) E = all-append (coordinatesOf (bezierSegment a b)) (numbersOf (bezierSegments b bs)) (segment-single a b (E .0 .0) (E .0 .1)) (segments-single b bs (E .1))
+segments-single a (b ∷ bs) E = single-append (coordinatesOf (bezierSegment a b)) (numbersOf (bezierSegments b bs)) (segment-single a b (E .0 .0) (E .0 .1)) (segments-single b bs (E .1))
 
 path-single : (closed : Bool) (vs : List BezierVertex) → AllEnds vs → AllSingle (numbersOf (bezierPath closed vs))
 unfolding bezierPath
@@ -119,9 +119,14 @@ path-single closed [] E = tt
 path-single closed (a ∷ []) E = (E .0 .0, (E .0 .1, (E .0 .0, (E .0 .1, tt))))
 path-single false (a ∷ (b ∷ bs)) E = (E .0 .0, (E .0 .1, segments-single a (b ∷ bs) (E .1)))
 path-single true (a ∷ (b ∷ bs)) E =
-    let round = (b ∷ bs) ++ a ∷ [] in
-    (E .0 .0, (E .0 .1, subst AllSingle (sym (numbers-append (bezierSegments a round) (Close ∷ [])))
-    (all-append (numbersOf (bezierSegments a round)) [] (segments-single a round (ends-append (b ∷ bs) a (E .1) (E .0 .0) (E .0 .1))) tt)))
+    let round = (b ∷ bs) ++ a ∷ [] in (
+      E .0 .0,
+      (
+        E .0 .1,
+        subst AllSingle (sym (numbers-append (bezierSegments a round) (Close ∷ [])))
+            (single-append (numbersOf (bezierSegments a round)) [] (segments-single a round (ends-append (b ∷ bs) a (E .1) (E .0 .0) (E .0 .1))) tt),
+      ),
+    )
 
 vertices-ends : (n : ℕ) (v : List Float) → ((i : ℕ) → i < 6 * n → Single (getD v i nan)) → AllEnds (verticesOf n v)
 unfolding verticesOf
@@ -175,7 +180,7 @@ shape-single row v at = go (isPath row) at
     go false at = rect-single (getD v 0 nan) (getD v 1 nan) (getD v 2 nan) (getD v 3 nan) (getD v 4 nan)
 
 -- the numbers that are read are f32
-abbrev ReadSingle : ItemRow → List Float → Type 0
+abbrev pub ReadSingle : ItemRow → List Float → Type 0
 ReadSingle row items = (i : ℕ) → row .place ≤ i → i < row .place + entriesRead row → i < length items → Single (getD items i nan)
 
 source-single : (row : ItemRow) (items : List Float) → ReadSingle row items → AllSingle (numbersOf (commandsOf (drawSource row items)))
@@ -201,7 +206,7 @@ followed-single : (o p : Outcome) → AllSingle (numbersOf (commandsOf o)) → A
 unfolding followedBy
 followed-single (refused r) p O P = tt
 followed-single (drawn cs) (refused r) O P = tt
-followed-single (drawn cs) (drawn ds) O P = subst AllSingle (sym (numbers-append cs ds)) (all-append (numbersOf cs) (numbersOf ds) O P)
+followed-single (drawn cs) (drawn ds) O P = subst AllSingle (sym (numbers-append cs ds)) (single-append (numbersOf cs) (numbersOf ds) O P)
 
 sources-single : (rows : List ℕ) (items : List Float) (numbers : List ℕ) → ((i : ℕ) → i < length numbers → ReadSingle (itemRow rows (getD numbers i 0)) items)
     → AllSingle (numbersOf (commandsOf (drawSources (map (itemRow rows) numbers) items)))

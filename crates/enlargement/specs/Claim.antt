@@ -1,4 +1,4 @@
--- The third demand of the mission, whole: every call answers a plate on the grid and the same plate enlarged by 2, 4, 8, 16, 32 or 64 alike. `AnsweredAlike` is one record with a field for each call:
+-- The third demand of the mission, whole: every call answers a plate on the grid and the same plate enlarged by 2, 4, 8, 16, 32 or 64 alike. `AnsweredAlike` has a field for each call:
 --
 --   drawing                     the same refusal, or the same codes and every coordinate multiplied
 --   tray estimate               the same
@@ -11,14 +11,18 @@
 --   copy order                  the same
 --   copy transform              the same refusal, or the same a, b, c, d and opacity, and the shift e, f multiplied
 --
--- 'Multiplied' is `scale k`: the float whose value is exactly 2 ^ k times as large, a zero keeping its sign (crates/ieee/specs/Grid.antt).
--- The answers stand here without the last check, 11, which asks the size of the caller's buffers: specs/Buffers.antt says the same of what the calls put into buffers that are large enough.
--- Each exported function promises (crates/jengafir) that what it hands back is what these definitions say, so the claim is one about the definitions of the second demand.
--- The proof is proofs/Claim.antt; proofs/Example.antt is a plate that meets the conditions. Definitions only.
+-- 'Multiplied' is `scale k`: the float whose value is exactly 2 ^ k times as large, a zero keeping its sign (crates/ieee/specs/Grid.antt); `products` says that it is the f32 product.
+-- What is asked of the plates is `PlateOnGrid` and `Enlarged` (specs/Plates.antt). The answers stand here without the last check, 11, which asks the size of the caller's buffers;
+-- `FilledAlike` (specs/Buffers.antt) says the same of what the calls put into them. Each exported function promises (crates/jengafir) that what it hands back is what these definitions
+-- say, so the claim is one about the definitions of the second demand. The proof is proofs/Claim.antt, and proofs/Example.antt is a plate that meets the conditions. Definitions only.
 use Prim.Native.Nat.{ℕ, _≤_}
 use mathlib.Core.Path.{_≡_}
-use mathlib.Core.List.{map}
+use mathlib.Core.List.{List, [], _∷_, _++_, map}
+use lib.Ieee.{Float}
+use lib.ListN.{take, drop}
 use Rattle.ieee.specs.Grid.{scale}
+use Rattle.command.specs.Commands.{numbersOf}
+use Rattle.command.specs.Outcomes.{commandsOf}
 use Rattle.command.specs.Enlarged.{enlargedOutcome}
 use Rattle.draw.specs.Paths.{drawPath}
 use Rattle.draw.specs.Items.{drawItem}
@@ -26,16 +30,38 @@ use Rattle.estimate.specs.Estimate.{trayEstimate}
 use Rattle.merge.specs.Decision.{decision}
 use Rattle.join.specs.Merge.{drawMerge}
 use Rattle.judge.specs.Lists.{findCommand, commandFault, commandPart}
+use Rattle.length.specs.declared.Measured.{Measured}
+use Rattle.length.specs.declared.Measured.the-variants.{Refused, Length}
 use Rattle.length.specs.Lists.{measureList}
 use Rattle.length.specs.Enlarged.{enlargedMeasured}
 use Rattle.cut.specs.Calls.{trimRanges, trimLengths}
-use Rattle.cut.specs.Answers.{rangesAnswer, lengthsAnswer}
+use Rattle.cut.specs.Answers.{rangesAnswer, lengthsAnswer, answerNumbers}
 use Rattle.cut.specs.Enlarged.{CutsAlike}
+use Rattle.copies.specs.Answers as copies
 use Rattle.copies.specs.Calls.{orderAnswer, transformAnswer}
 use Rattle.copies.specs.Enlarged.{movedAnswer}
-use Rattle.enlargement.specs.Plates.{Plate, PlateOnGrid, Enlarged}
+use Rattle.enlargement.specs.Plates.{Plate, PlateOnGrid, times, Enlarged}
+use Rattle.enlargement.specs.Buffers.{FilledAlike}
 
--- every call's answers about p and p'
+-- ---- the numbers that enlarging multiplies: all coordinates, the length, the numbers of the command, the cut lengths, and the copy's e and f
+abbrev pub lengthNumbers : Measured → List Float
+lengthNumbers (Refused r) = []
+lengthNumbers (Length x) = x ∷ []
+
+abbrev pub shiftNumbers : copies.Answer Float → List Float
+shiftNumbers a = take 2 (drop 4 (copies.answerList a))
+
+abbrev pub multipliedNumbers : Plate → List Float
+multipliedNumbers p =
+    numbersOf (commandsOf (drawPath (p .lent .closed) (p .vertices) (p .lent .count)))
+    ++ (numbersOf (commandsOf (drawItem (p .lent .row) (p .items)))
+    ++ (numbersOf (commandsOf (drawMerge (p .lent .rows) (p .lent .rowCount) (p .items)))
+    ++ (lengthNumbers (measureList (p .lent .codes) (p .numbers))
+    ++ (commandPart (p .lent .codes) (p .numbers) (p .lent .command)
+    ++ (answerNumbers (lengthsAnswer (trimLengths (p .lent .trim) (p .lent .codes) (p .numbers)))
+    ++ shiftNumbers (transformAnswer (p .repeater) (p .lent .copy)))))))
+
+-- ---- every call's answers about p and p', and that 'multiplied' is the f32 product
 pub record AnsweredAlike (k : ℕ) (p p' : Plate) : Type 0 where
   pub path-drawn : drawPath (p' .lent .closed) (p' .vertices) (p' .lent .count) ≡ enlargedOutcome k (drawPath (p .lent .closed) (p .vertices) (p .lent .count))
   pub item-drawn : drawItem (p' .lent .row) (p' .items) ≡ enlargedOutcome k (drawItem (p .lent .row) (p .items))
@@ -50,7 +76,8 @@ pub record AnsweredAlike (k : ℕ) (p p' : Plate) : Type 0 where
   pub cut-lengths : CutsAlike k (lengthsAnswer (trimLengths (p .lent .trim) (p .lent .codes) (p .numbers))) (lengthsAnswer (trimLengths (p' .lent .trim) (p' .lent .codes) (p' .numbers)))
   pub copy-order : orderAnswer (p' .repeater) ≡ orderAnswer (p .repeater)
   pub copy-transform : transformAnswer (p' .repeater) (p' .lent .copy) ≡ movedAnswer k (transformAnswer (p .repeater) (p .lent .copy))
+  pub products : map (times k) (multipliedNumbers p) ≡ map (scale k) (multipliedNumbers p)
 
 -- the claim: for each exponent up to 6, that is for the factors 2, 4, 8, 16, 32 and 64
 abbrev pub EnlargedAlike : Type 0
-EnlargedAlike = (k : ℕ) → k ≤ 6 → (p p' : Plate) → PlateOnGrid p → Enlarged k p p' → AnsweredAlike k p p'
+EnlargedAlike = (k : ℕ) → k ≤ 6 → (p p' : Plate) → PlateOnGrid p → Enlarged k p p' → AnsweredAlike k p p' × FilledAlike k p p'

@@ -87,7 +87,6 @@ pub record PlateOnGrid (p : Plate) : Type 0 where
   pub made : Made commands
   pub codes-are : p .lent .codes ≡ codesOf commands
   pub numbers-are : p .numbers ≡ numbersOf commands
-  pub single : (i : ℕ) → i < length (p .numbers) → fits binary32 (getD (p .numbers) i nan) ≡ true
   pub scale-x : p .repeater .scale .x ≡ hundred32
   pub scale-y : p .repeater .scale .y ≡ hundred32
   pub position-x : OnGrid (p .repeater .position .x)
