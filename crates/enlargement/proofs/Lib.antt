@@ -4,3 +4,4 @@ pub mod Numbers
 pub mod Buffers
 pub mod Claim
 pub mod Example
+pub mod Needed

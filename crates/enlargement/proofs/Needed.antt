@@ -1,0 +1,82 @@
+-- Each condition of the claim is needed: what the calls answer where one of them does not hold, by computing. Assumes nothing.
+use Prim.Native.Nat.{ℕ}
+use mathlib.Core.Path.{_≡_, refl}
+use mathlib.Core.List.{[], _∷_}
+use lib.Ieee.{Float, binary32, add, sub, mul, div, lt, le, ofInt, ofBits}
+use Rattle.ieee.specs.Fused.{fma}
+use Rattle.ieee.specs.Limit.{allWithin}
+use Rattle.ieee.specs.Literal.{zero32, one32}
+use Rattle.command.specs.declared.PathCommand.the-variants.{Move, Line, Cubic}
+use Rattle.command.specs.declared.Refusal.the-variants.{OutOfRange, NotFinite}
+use Rattle.command.specs.Outcomes.{Outcome, refused, drawn}
+use Rattle.path.specs.Path.{bezierSegment}
+use Rattle.draw.specs.Paths.{drawPath}
+use Rattle.repeater.specs.Matrix.{concat, preTranslate, preScale}
+use Rattle.repeater.specs.Repeater as repeater
+use Rattle.copies.specs.Answers as copies
+use Rattle.copies.specs.Calls.{isCrowded, verdictOf, after, copyNumbers, allFinite, finiteAnswer, copyAnswer, transformAnswer}
+
+-- ---- the grid of 1 / 1,024: an out-tangent of 2 ^ -14 is within 1e-4, and twice that is not
+abbrev tangent : Float → Outcome
+tangent x = drawPath 0 (zero32 ∷ zero32 ∷ zero32 ∷ zero32 ∷ x ∷ zero32 ∷ one32 ∷ zero32 ∷ zero32 ∷ zero32 ∷ zero32 ∷ zero32 ∷ []) 2
+
+abbrev two-14 : Float
+two-14 = ofBits binary32 0x3880_0000
+
+abbrev two-13 : Float
+two-13 = ofBits binary32 0x3900_0000
+
+finer-is-line : tangent two-14 ≡ drawn (Move zero32 zero32 ∷ Line one32 zero32 ∷ [])
+unfolding drawPath bezierSegment add sub ofBits le
+finer-is-line = refl
+
+twice-is-cubic : tangent two-13 ≡ drawn (Move zero32 zero32 ∷ Cubic two-13 zero32 one32 zero32 one32 zero32 ∷ [])
+unfolding drawPath bezierSegment add sub ofBits le
+twice-is-cubic = refl
+
+-- ---- at most 8,192, and no factor of 256: the limit is 1,048,576, which is 128 times 8,192, and 2,097,152 is over it
+abbrev one-vertex : Float → Outcome
+one-vertex x = drawPath 0 (x ∷ zero32 ∷ zero32 ∷ zero32 ∷ zero32 ∷ zero32 ∷ []) 1
+
+at-the-limit : one-vertex (ofBits binary32 0x4980_0000) ≡ drawn (Move (ofBits binary32 0x4980_0000) zero32 ∷ Line (ofBits binary32 0x4980_0000) zero32 ∷ [])
+unfolding drawPath ofBits le
+at-the-limit = refl
+
+over-the-limit : one-vertex (ofBits binary32 0x4a00_0000) ≡ refused OutOfRange
+unfolding drawPath ofBits le
+over-the-limit = refl
+
+-- ---- a scale of 100: with 819,200 each copy is 8,192 times as large as the one before, copy 9 around an anchor of 1,024 is shifted by -2 ^ 127, and twice that is no f32
+abbrev copyAt : Float → Float → Float → Float → ℕ → copies.Answer Float
+copyAt offset anchor position scale copy =
+    transformAnswer (record {
+      copies = ofBits binary32 0x4120_0000;
+      offset = offset;
+      mode = 1;
+      anchor = record { x = anchor; y = zero32 };
+      position = record { x = position; y = zero32 };
+      scale = record { x = scale; y = ofBits binary32 0x42c8_0000 };
+      rotation = zero32;
+      «start_opacity» = one32;
+      «end_opacity» = one32;
+    }) copy
+
+large-scale : copyAt zero32 (ofBits binary32 0x4480_0000) zero32 (ofBits binary32 0x4948_0000) 9
+    ≡ copies.answered (ofBits binary32 0x7a00_0000 ∷ zero32 ∷ zero32 ∷ one32 ∷ ofBits binary32 0xff00_0000 ∷ zero32 ∷ one32 ∷ [])
+unfolding ofBits allWithin lt le ofInt add sub mul div fma concat preTranslate preScale repeater.copyCount repeater.stepScale repeater.stepShift repeater.stepMatrix repeater.stepTransform repeater.steps repeater.iterationTransform repeater.copyTransform repeater.opacityOf repeater.copyOpacity isCrowded verdictOf after copyNumbers allFinite finiteAnswer copyAnswer transformAnswer
+large-scale = refl
+
+large-scale-enlarged : copyAt zero32 (ofBits binary32 0x4500_0000) zero32 (ofBits binary32 0x4948_0000) 9 ≡ copies.refused NotFinite
+unfolding ofBits allWithin lt le ofInt add sub mul div fma concat preTranslate preScale repeater.copyCount repeater.stepScale repeater.stepShift repeater.stepMatrix repeater.stepTransform repeater.steps repeater.iterationTransform repeater.copyTransform repeater.opacityOf repeater.copyOpacity isCrowded verdictOf after copyNumbers allFinite finiteAnswer copyAnswer transformAnswer
+large-scale-enlarged = refl
+
+-- ---- the anchor is multiplied with the position: around 8,192 a third of a step by 1 is rounded to 341 / 1,024, and a third of a step by 2 to 683 / 1,024, which is not twice that
+third-of-one : copyAt (ofBits binary32 0x3eaa_aaab) (ofBits binary32 0x4600_0000) one32 (ofBits binary32 0x42c8_0000) 0
+    ≡ copies.answered (one32 ∷ zero32 ∷ zero32 ∷ one32 ∷ ofBits binary32 0x3eaa_8000 ∷ zero32 ∷ one32 ∷ [])
+unfolding ofBits allWithin lt le ofInt add sub mul div fma concat preTranslate preScale repeater.copyCount repeater.stepScale repeater.stepShift repeater.stepMatrix repeater.stepTransform repeater.steps repeater.iterationTransform repeater.copyTransform repeater.opacityOf repeater.copyOpacity isCrowded verdictOf after copyNumbers allFinite finiteAnswer copyAnswer transformAnswer
+third-of-one = refl
+
+third-of-two : copyAt (ofBits binary32 0x3eaa_aaab) (ofBits binary32 0x4600_0000) (ofBits binary32 0x4000_0000) (ofBits binary32 0x42c8_0000) 0
+    ≡ copies.answered (one32 ∷ zero32 ∷ zero32 ∷ one32 ∷ ofBits binary32 0x3f2a_c000 ∷ zero32 ∷ one32 ∷ [])
+unfolding ofBits allWithin lt le ofInt add sub mul div fma concat preTranslate preScale repeater.copyCount repeater.stepScale repeater.stepShift repeater.stepMatrix repeater.stepTransform repeater.steps repeater.iterationTransform repeater.copyTransform repeater.opacityOf repeater.copyOpacity isCrowded verdictOf after copyNumbers allFinite finiteAnswer copyAnswer transformAnswer
+third-of-two = refl
