@@ -11,11 +11,14 @@ use lib.Ieee.{Float, nan, fin, binary32, fits, add, sub, mul, div, lt, le, ofInt
 use lib.Ieee.Bits.{is-true}
 use lib.Ieee.Fits.{and-l, and-r}
 use lib.ListN.{length, getD}
+use Rattle.ieee.specs.Choice.{min, max, clamp}
 use Rattle.ieee.specs.Fused.{fma}
 use Rattle.ieee.specs.Grid.{on}
 use Rattle.ieee.specs.Limit.{allWithin}
 use Rattle.ieee.specs.Literal.{zero32, one32}
+use Rattle.ieee.specs.Remainder.{remEuclid}
 use Rattle.ieee.specs.Root.{hypotOf, isqrt}
+use Rattle.ieee.specs.Whole.{roundAway}
 use Rattle.ieee.proofs.Grid.{on→On}
 use Rattle.command.specs.declared.PathCommand.{PathCommand}
 use Rattle.command.specs.declared.PathCommand.the-variants.{Move, Line, Close}
@@ -29,6 +32,10 @@ use Rattle.measure.specs.Length as measure
 use Rattle.judge.specs.Lists as judge
 use Rattle.length.specs.declared.Measured.the-variants.{Length}
 use Rattle.length.specs.Lists.{measuredOf, measureList}
+use Rattle.trim.specs.Trim.{offsetOf, placedAt, snapped, near, nearBoth, isWhole, rangesBetween, lower, upper, normalizedTrimSegments}
+use Rattle.cut.specs.Cuts.{partOf}
+use Rattle.cut.specs.Calls.{isFiniteTrim, isTrimMode, trimMeasured, trimLengths}
+use Rattle.cut.specs.Answers.{lengthsAnswer, answerNumbers}
 use Rattle.repeater.specs.Matrix.{concat, preTranslate, preScale}
 use Rattle.repeater.specs.Repeater as repeater
 use Rattle.copies.specs.Answers.{answered}
@@ -166,6 +173,15 @@ length-12 = refl
 length-48 : measureList (lent .codes) (larger .numbers) ≡ Length (ofBits binary32 0x4240_0000)
 unfolding enlarge sub mul ofBits le hypotOf isqrt distance measure.startPen measure.moveTo measure.lineTo measure.close measure.step measure.steps measure.lengthAfter measure.pathLength judge.sizeOfCode judge.commandAt judge.before judge.readList judge.judgeList measuredOf measureList allWithin
 length-48 = refl
+
+-- the middle half of it is shown: 3, 6, 3, and 12, 24, 12
+cuts-12 : answerNumbers (lengthsAnswer (trimLengths (lent .trim) (lent .codes) (plate .numbers))) ≡ three ∷ ofBits binary32 0x40c0_0000 ∷ three ∷ []
+unfolding sub mul div le ofInt ofBits min max clamp fma remEuclid hypotOf isqrt roundAway distance measure.startPen measure.moveTo measure.lineTo measure.close measure.step measure.steps measure.lengthAfter measure.pathLength judge.sizeOfCode judge.commandAt judge.before judge.readList judge.judgeList measuredOf measureList allWithin offsetOf placedAt snapped near nearBoth isWhole rangesBetween lower upper normalizedTrimSegments isFiniteTrim isTrimMode trimMeasured trimLengths lengthsAnswer partOf
+cuts-12 = refl
+
+cuts-48 : answerNumbers (lengthsAnswer (trimLengths (lent .trim) (lent .codes) (larger .numbers))) ≡ twelve ∷ ofBits binary32 0x41c0_0000 ∷ twelve ∷ []
+unfolding enlarge sub mul div le ofInt ofBits min max clamp fma remEuclid hypotOf isqrt roundAway distance measure.startPen measure.moveTo measure.lineTo measure.close measure.step measure.steps measure.lengthAfter measure.pathLength judge.sizeOfCode judge.commandAt judge.before judge.readList judge.judgeList measuredOf measureList allWithin offsetOf placedAt snapped near nearBoth isWhole rangesBetween lower upper normalizedTrimSegments isFiniteTrim isTrimMode trimMeasured trimLengths lengthsAnswer partOf
+cuts-48 = refl
 
 rows-joined : decision (lent .rows) (lent .rowCount) ≡ joined (0 ∷ 1 ∷ [])
 unfolding decision ruling
