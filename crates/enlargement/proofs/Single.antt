@@ -12,7 +12,7 @@ use lib.Ieee.{Float, nan, inf, fin, binary32, fits, up, down, unlike, round, sum
 use lib.Ieee.Fits.{round-fits, cond-fits, nan-fits, inf-fits, add-fits, sub-fits, mul-fits}
 use lib.ListN.{length, getD, take, drop}
 use lib.Seq.{getD-drop}
-use Rattle.ieee.specs.Literal.{zero32, one32}
+use Rattle.ieee.specs.Literal.{zero32, one32, epsilon32}
 use Rattle.ieee.specs.Operators.{_⊕_, _⊖_, _⊗_}
 use Rattle.ieee.specs.Choice.{max}
 use Rattle.ieee.specs.Fused.{fma}
@@ -289,8 +289,8 @@ iteration-single r iteration =
     let fraction = abs iteration ⊖ ofInt binary32 (pos whole) in
     let transform = repeater.steps whole (repeater.stepTransform r one32 inverse) in
     let further = concat transform (repeater.stepTransform r fraction inverse) in
-    choice-single (within repeater.epsilon32 iteration) identity (cond (lt repeater.epsilon32 fraction) further transform) (zero-single, zero-single)
-    (choice-single (lt repeater.epsilon32 fraction) further transform (concat-single transform (repeater.stepTransform r fraction inverse))
+    choice-single (within epsilon32 iteration) identity (cond (lt epsilon32 fraction) further transform) (zero-single, zero-single)
+    (choice-single (lt epsilon32 fraction) further transform (concat-single transform (repeater.stepTransform r fraction inverse))
     (repeated-single whole (repeater.stepTransform r one32 inverse)))
 
 pub copy-single : (r : RepeaterStyle) (copy : ℕ) → ShiftSingle (repeater.copyTransform r copy)
