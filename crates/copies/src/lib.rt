@@ -8,7 +8,6 @@ ghost use mathlib.Core.Bool.{true};
 ghost use Prim.Native.Nat.{_+_, _≤_};
 ghost use lib.ListN.{length};
 ghost use lib.Seq.{sets};
-ghost use lib.Ieee.Scale.{finite};
 ghost use Rattle.ieee.specs.Limit.{allWithin};
 ghost use Rattle.copies.specs.Order.{rising, falling, orderOf};
 ghost use Rattle.copies.specs.declared.Verdict.the-variants.{Sound};
@@ -146,7 +145,7 @@ fn put_falling(n: usize, order: &mut [u32])
 }
 
 // The order of n copies from the start of a list.
-pub fn put_order(mode: u8, n: usize, order: &mut [u32])
+fn put_order(mode: u8, n: usize, order: &mut [u32])
     requires { ⌜ (n ≤ length (now order)) × (n ≤ 4096) ⌝ }
     ensures { λ _. ⌜ now (order .exit) ≡ sets (now (order .entry)) 0 (orderOf mode n) ⌝ }
 {
@@ -183,20 +182,13 @@ pub fn copy_order(repeater: RepeaterStyle, order: &mut [u32]) -> Written
     }
 }
 
-fn is_finite(x: f32) -> bool
-    ensures { λ r. ⌜ r ≡ finite x ⌝ }
-{
-    let parts = float::split(x);
-    parts.finite
-}
-
 // Whether all numbers are finite.
 fn are_finite(numbers: &[f32]) -> bool
     ensures { λ r. ⌜ r ≡ spec.allFinite (now (numbers .entry)) ⌝ }
 {
     let mut i: usize = 0;
     while i < numbers.len() {
-        if is_finite(numbers[i]) {
+        if float::is_finite(numbers[i]) {
             i += 1;
         } else {
             return false;

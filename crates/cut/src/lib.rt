@@ -7,7 +7,6 @@ ghost use mathlib.Core.Path.{_≡_};
 ghost use Prim.Native.Nat.{_+_, _≤_};
 ghost use lib.ListN.{length};
 ghost use lib.Seq.{sets};
-ghost use lib.Ieee.Scale.{finite};
 ghost use Rattle.command.specs.Commands.{onto};
 ghost use Rattle.trim.specs.Ranges.{rangeEnds};
 ghost use Rattle.cut.specs.Cuts.{partOf, cutsOf, cutNumbers, cutAll};
@@ -33,19 +32,12 @@ pub enum Trimmed {
     Cut(f32, Ranges),
 }
 
-fn is_finite(x: f32) -> bool
-    ensures { λ r. ⌜ r ≡ finite x ⌝ }
-{
-    let parts = float::split(x);
-    parts.finite
-}
-
 fn is_finite_trim(trim: TrimStyle) -> bool
     ensures { λ r. ⌜ r ≡ isFiniteTrim trim ⌝ }
 {
-    if is_finite(trim.start) {
-        if is_finite(trim.end) {
-            is_finite(trim.offset_degrees)
+    if float::is_finite(trim.start) {
+        if float::is_finite(trim.end) {
+            float::is_finite(trim.offset_degrees)
         } else {
             false
         }

@@ -4,6 +4,7 @@ ghost use mathlib.Core.Bool.{Bool, cond};
 ghost use Prim.Native.Nat.{ℕ, _+_, _*_, _^_, _≤_, _<_};
 ghost use lib.Ieee as Ieee;
 ghost use lib.Ieee.{binary32, units};
+ghost use lib.Ieee.Scale.{finite};
 ghost use Rattle.ieee.specs.Sign as Sign;
 ghost use Rattle.ieee.specs.Choice as Choice;
 ghost use Rattle.ieee.specs.Limit.{within, allWithin};
@@ -57,6 +58,14 @@ pub fn split(x: f32) -> Parts
         digits: 0,
         drops: 0,
     }
+}
+
+// Whether x is no NaN and no infinity.
+pub fn is_finite(x: f32) -> bool
+    ensures { λ r. ⌜ r ≡ finite x ⌝ }
+{
+    let parts = split(x);
+    parts.finite
 }
 
 // The float with the sign `negative` and the rest p of its pattern.
