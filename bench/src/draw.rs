@@ -1,9 +1,9 @@
 //! Times drawing vertex lists, through the C interface, against the Rust's own function over its stand-ins.
 
+use crate::timing::compare;
 use crate::unit_numbers;
 use source::{BezierPath, BezierVertex};
 use std::hint::black_box;
-use std::time::Instant;
 
 extern "C" {
     fn jengafir_draw_path(
@@ -23,7 +23,6 @@ extern "C" {
 const VERTICES: usize = 1_024;
 /// So many lists that no processor remembers which segments are lines.
 const LISTS: usize = 64;
-const ROUNDS: usize = 40;
 
 /// A closed list, in the form of either side.
 struct Drawing {
@@ -51,7 +50,7 @@ fn drawing(unit: &mut impl FnMut() -> f32, lines_of_16: u32) -> Drawing {
 }
 
 /// Draws with ours, and gives how many numbers were written.
-fn draw(drawing: &Drawing, codes: &mut [u8], numbers: &mut [f32]) -> usize {
+fn draw(drawing: &Drawing, codes: &mut [u8], numbers: &mut [f32]) -> u32 {
     let mut written = [0; 2];
     let [codes_written, numbers_written] = &mut written;
     let refusal = unsafe {
@@ -69,33 +68,21 @@ fn draw(drawing: &Drawing, codes: &mut [u8], numbers: &mut [f32]) -> usize {
         )
     };
     assert_eq!(refusal, 0);
-    written[1]
+    written[1] as u32
 }
 
-/// Nanoseconds a vertex for f, over all drawings.
-fn time(drawings: &[Drawing], mut f: impl FnMut(&Drawing) -> usize) -> f64 {
-    let start = Instant::now();
-    let mut sum = 0;
-    for drawing in black_box(drawings) {
-        sum += f(drawing);
-    }
-    black_box(sum);
-    start.elapsed().as_nanos() as f64 / (LISTS * VERTICES) as f64
+/// Draws with theirs, and gives how many numbers were written.
+fn theirs(drawing: &Drawing) -> u32 {
+    black_box(source::bezier_path(&drawing.path)).unwrap().numbers.len() as u32
 }
 
 pub fn run() {
-    println!("ns a vertex  ours    Rust   ratio");
-    for (name, lines_of_16) in [("cubics", 0), ("half lines", 8)] {
+    for (call, lines_of_16) in [("draw_path, cubics", 0), ("draw_path, half lines", 8)] {
         let mut unit = unit_numbers();
         let drawings: Vec<Drawing> = (0..LISTS).map(|_| drawing(&mut unit, lines_of_16)).collect();
         let mut codes = [0; VERTICES + 2];
         let mut numbers = [0.0; 6 * VERTICES + 2];
-        let mut best = [f64::INFINITY; 2];
-        for _ in 0..ROUNDS {
-            let ours = time(&drawings, |d| draw(d, &mut codes, black_box(&mut numbers)));
-            let theirs = time(&drawings, |d| black_box(source::bezier_path(&d.path)).unwrap().numbers.len());
-            best = [best[0].min(ours), best[1].min(theirs)];
-        }
-        println!("{name:10}{:7.2} {:7.2} {:7.2}", best[0], best[1], best[0] / best[1]);
+        let ours = |d: &Drawing| draw(d, &mut codes, black_box(&mut numbers));
+        compare(call, ("vertex", VERTICES), &drawings, ours, theirs);
     }
 }

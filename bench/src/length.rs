@@ -1,9 +1,8 @@
 //! Times the length of command lists, through the C interface, against the Rust's own function over its stand-ins.
 
+use crate::timing::{compare, Unit};
 use crate::unit_numbers;
 use source::Path;
-use std::hint::black_box;
-use std::time::Instant;
 
 extern "C" {
     fn jengafir_length(
@@ -17,11 +16,15 @@ extern "C" {
 
 const COMMANDS: usize = 1_024;
 const LISTS: usize = 16;
-const ROUNDS: usize = 10;
+/// Of a list the commands after its move are counted.
+const A_COMMAND: Unit = ("command", COMMANDS);
 
 const LINE: u8 = 1;
 const CUBIC: u8 = 2;
 const QUAD: u8 = 4;
+
+/// The kinds of commands that draw, and their names.
+const KINDS: [(&str, u8); 3] = [("lines", LINE), ("quads", QUAD), ("cubics", CUBIC)];
 
 /// A move and commands of one kind, between points from -4096 to 4096.
 fn list(unit: &mut impl FnMut() -> f32, code: u8) -> Path {
@@ -36,35 +39,23 @@ fn list(unit: &mut impl FnMut() -> f32, code: u8) -> Path {
     Path { codes, numbers }
 }
 
-fn length(list: &Path) -> f32 {
+fn lists(code: u8) -> Vec<Path> {
+    let mut unit = unit_numbers();
+    (0..LISTS).map(|_| list(&mut unit, code)).collect()
+}
+
+fn length(list: &Path) -> u32 {
     let mut length = 0.0;
     let (codes, numbers) = (&list.codes, &list.numbers);
     let refusal =
         unsafe { jengafir_length(codes.as_ptr(), codes.len(), numbers.as_ptr(), numbers.len(), &mut length) };
     assert_eq!(refusal, 0);
-    length
-}
-
-/// Nanoseconds a command for f, over all lists.
-fn time(lists: &[Path], f: impl Fn(&Path) -> f32) -> f64 {
-    let start = Instant::now();
-    let mut sum = 0u32;
-    for list in black_box(lists) {
-        sum = sum.wrapping_add(f(list).to_bits());
-    }
-    black_box(sum);
-    start.elapsed().as_nanos() as f64 / (LISTS * COMMANDS) as f64
+    length.to_bits()
 }
 
 pub fn run() {
-    println!("ns a command ours    Rust   ratio");
-    for (name, code) in [("lines", LINE), ("quads", QUAD), ("cubics", CUBIC)] {
-        let mut unit = unit_numbers();
-        let lists: Vec<Path> = (0..LISTS).map(|_| list(&mut unit, code)).collect();
-        let mut best = [f64::INFINITY; 2];
-        for _ in 0..ROUNDS {
-            best = [best[0].min(time(&lists, length)), best[1].min(time(&lists, source::path_length))];
-        }
-        println!("{name:10}{:7.1} {:7.1} {:7.2}", best[0], best[1], best[0] / best[1]);
+    for (name, code) in KINDS {
+        let theirs = |list: &Path| source::path_length(list).to_bits();
+        compare(&format!("length, {name}"), A_COMMAND, &lists(code), length, theirs);
     }
 }

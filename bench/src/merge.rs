@@ -1,9 +1,9 @@
 //! Times merges, through the C interface, against the Rust's own function over its stand-ins.
 
+use crate::timing::compare;
 use crate::unit_numbers;
 use source::{BezierPath, BezierVertex, ShapeItem};
 use std::hint::black_box;
-use std::time::Instant;
 
 extern "C" {
     fn jengafir_merge(
@@ -27,7 +27,6 @@ const MM: u32 = 13;
 const VERTICES: usize = 100;
 /// So many merges that no processor remembers which segments are lines.
 const MERGES: usize = 64;
-const ROUNDS: usize = 100;
 /// No merge here has more codes or numbers.
 const MOST_CODES: usize = 1_100;
 const MOST_NUMBERS: usize = 6_200;
@@ -86,7 +85,7 @@ fn paths(unit: &mut impl FnMut() -> f32) -> Merge {
 }
 
 /// Merges with ours, and gives how many numbers were written.
-fn ours(merge: &Merge, codes: &mut [u8], numbers: &mut [f32]) -> usize {
+fn join(merge: &Merge, codes: &mut [u8], numbers: &mut [f32]) -> u32 {
     let mut written = [0; 2];
     let [codes_written, numbers_written] = &mut written;
     let refusal = unsafe {
@@ -105,37 +104,25 @@ fn ours(merge: &Merge, codes: &mut [u8], numbers: &mut [f32]) -> usize {
         )
     };
     assert_eq!(refusal, 0);
-    written[1]
+    written[1] as u32
 }
 
-/// Nanoseconds a merge for f, over all merges, and how many numbers were written.
-fn time(merges: &[Merge], mut f: impl FnMut(&Merge) -> usize) -> (f64, usize) {
-    let start = Instant::now();
-    let mut sum = 0;
-    for merge in black_box(merges) {
-        sum += f(merge);
-    }
-    (start.elapsed().as_nanos() as f64 / MERGES as f64, black_box(sum))
+/// Merges with theirs, and gives how many numbers were written.
+fn theirs(merge: &Merge) -> u32 {
+    black_box(source::merged_path(&merge.items)).unwrap().numbers.len() as u32
 }
 
 pub fn run() {
-    println!("ns a merge   ours    Rust   ratio");
     let mut unit = unit_numbers();
     let merges: [(&str, Vec<Merge>); 3] = [
-        ("100 plain", (0..MERGES).map(|_| rectangles(&mut unit, 0.0)).collect()),
-        ("100 round", (0..MERGES).map(|_| rectangles(&mut unit, 0.5)).collect()),
-        ("10 paths", (0..MERGES).map(|_| paths(&mut unit)).collect()),
+        ("merge, 100 plain", (0..MERGES).map(|_| rectangles(&mut unit, 0.0)).collect()),
+        ("merge, 100 round", (0..MERGES).map(|_| rectangles(&mut unit, 0.5)).collect()),
+        ("merge, 10 paths", (0..MERGES).map(|_| paths(&mut unit)).collect()),
     ];
-    for (name, merges) in merges {
+    for (call, merges) in merges {
         let mut codes = [0; MOST_CODES];
         let mut numbers = [0.0; MOST_NUMBERS];
-        let mut best = [f64::INFINITY; 2];
-        for _ in 0..ROUNDS {
-            let (ours, written) = time(&merges, |m| ours(m, &mut codes, black_box(&mut numbers)));
-            let (theirs, expected) = time(&merges, |m| black_box(source::merged_path(&m.items)).unwrap().numbers.len());
-            assert_eq!(written, expected);
-            best = [best[0].min(ours), best[1].min(theirs)];
-        }
-        println!("{name:10}{:7.0} {:7.0} {:7.2}", best[0], best[1], best[0] / best[1]);
+        let ours = |m: &Merge| join(m, &mut codes, black_box(&mut numbers));
+        compare(call, ("merge", 1), &merges, ours, theirs);
     }
 }

@@ -1,9 +1,8 @@
 //! Times trim ranges, through the C interface, against the Rust's own function.
 
+use crate::timing::compare;
 use crate::unit_numbers;
 use source::TrimStyle;
-use std::hint::black_box;
-use std::time::Instant;
 
 extern "C" {
     fn jengafir_trim_ranges(
@@ -17,7 +16,6 @@ extern "C" {
 }
 
 const TRIMS: usize = 1 << 14;
-const ROUNDS: usize = 40;
 
 /// Start and end from 0 to 100 and an offset within a turn of either sign, all in hundredths.
 fn trims() -> Vec<TrimStyle> {
@@ -32,37 +30,27 @@ fn trims() -> Vec<TrimStyle> {
     (0..TRIMS).map(any).collect()
 }
 
-fn ranges(trim: &TrimStyle) -> f32 {
+/// The bits of all numbers, added up.
+pub fn bits<'a>(numbers: impl IntoIterator<Item = &'a f32>) -> u32 {
+    numbers.into_iter().fold(0, |sum, x| sum.wrapping_add(x.to_bits()))
+}
+
+fn ranges(trim: &TrimStyle) -> u32 {
     let mut ranges = [0.0; 4];
     let (mut count, mut whole) = (0, 0);
     let places = ranges.as_mut_ptr();
-    unsafe { jengafir_trim_ranges(trim.start, trim.end, trim.offset_degrees, places, &mut count, &mut whole) };
-    ranges[0] + ranges[3] + whole as f32
+    let (start, end, offset) = (trim.start, trim.end, trim.offset_degrees);
+    let refusal = unsafe { jengafir_trim_ranges(start, end, offset, places, &mut count, &mut whole) };
+    assert_eq!(refusal, 0);
+    bits(&ranges[..2 * count]).wrapping_add(whole)
 }
 
 /// The Rust's ranges are a list of their own, as in its source.
-fn theirs(trim: &TrimStyle) -> f32 {
+fn theirs(trim: &TrimStyle) -> u32 {
     let (ranges, full) = source::trim_ranges(trim);
-    ranges.iter().map(|&(start, end)| start + end).sum::<f32>() + full as u8 as f32
-}
-
-/// Nanoseconds a trim for f, over all trims.
-fn time(trims: &[TrimStyle], f: impl Fn(&TrimStyle) -> f32) -> f64 {
-    let start = Instant::now();
-    let mut sum = 0.0;
-    for trim in black_box(trims) {
-        sum += f(trim);
-    }
-    black_box(sum);
-    start.elapsed().as_nanos() as f64 / TRIMS as f64
+    bits(ranges.iter().flat_map(|(start, end)| [start, end])).wrapping_add(full as u32)
 }
 
 pub fn run() {
-    let trims = trims();
-    let mut best = [f64::INFINITY; 2];
-    for _ in 0..ROUNDS {
-        best = [best[0].min(time(&trims, ranges)), best[1].min(time(&trims, theirs))];
-    }
-    println!("ns a trim    ours    Rust   ratio");
-    println!("ranges    {:7.1} {:7.1} {:7.2}", best[0], best[1], best[0] / best[1]);
+    compare("trim_ranges", ("trim", 1), &trims(), ranges, theirs);
 }

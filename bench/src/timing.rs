@@ -1,0 +1,55 @@
+//! Times functions over many inputs, and prints a line for each call.
+
+use std::hint::black_box;
+use std::time::Instant;
+
+const ROUNDS: usize = 40;
+
+/// What a time is for, and how many of it every input has.
+pub type Unit = (&'static str, usize);
+
+/// Nanoseconds for f over all inputs, and the sum of its results. Each result is used, so no call is left out.
+fn time<I>(inputs: &[I], f: &mut impl FnMut(&I) -> u32) -> (f64, u32) {
+    let start = Instant::now();
+    let mut sum = 0u32;
+    for input in black_box(inputs) {
+        sum = sum.wrapping_add(f(input));
+    }
+    let sum = black_box(sum);
+    (start.elapsed().as_nanos() as f64, sum)
+}
+
+pub fn heading() {
+    println!("{:24}{:>9}{:>9}{:>8}  ns per", "", "ours", "Rust", "ratio");
+}
+
+/// Prints the best times of ours and of theirs over all inputs.
+fn line<I>(call: &str, unit: Unit, inputs: &[I], ours: f64, theirs: f64) {
+    let figure = |time: f64| {
+        let each = time / (unit.1 * inputs.len()) as f64;
+        format!("{each:.*}", if each < 100.0 { 2 } else { 0 })
+    };
+    println!("{call:24}{:>9}{:>9}{:>8.2}  {}", figure(ours), figure(theirs), ours / theirs, unit.0);
+}
+
+/// Times ours and theirs in turn, and says so where their results are not the same.
+pub fn compare<I>(
+    call: &str,
+    unit: Unit,
+    inputs: &[I],
+    mut ours: impl FnMut(&I) -> u32,
+    mut theirs: impl FnMut(&I) -> u32,
+) {
+    let mut best = [f64::INFINITY; 2];
+    let mut same = true;
+    for _ in 0..ROUNDS {
+        let (our_time, our_sum) = time(inputs, &mut ours);
+        let (their_time, their_sum) = time(inputs, &mut theirs);
+        best = [best[0].min(our_time), best[1].min(their_time)];
+        same &= our_sum == their_sum;
+    }
+    line(call, unit, inputs, best[0], best[1]);
+    if !same {
+        println!("    the results of {call} differ");
+    }
+}
