@@ -6,6 +6,11 @@ use crate::unit_numbers;
 extern "C" {
     fn jengafir_mul_add(a: f32, b: f32, c: f32) -> f32;
     fn jengafir_hypot(x: f32, y: f32) -> f32;
+    fn jengafir_floor(x: f32) -> f32;
+    fn jengafir_ceil(x: f32) -> f32;
+    fn jengafir_round(x: f32) -> f32;
+    fn jengafir_abs(x: f32) -> f32;
+    fn jengafir_rem_euclid_360(x: f32) -> f32;
 }
 
 const INPUTS: usize = 1 << 16;
@@ -26,4 +31,10 @@ pub fn run() {
     let inputs = inputs();
     line("mul_add", &inputs, |&[a, b, c]| unsafe { jengafir_mul_add(a, b, c) }, |&[a, b, c]| a.mul_add(b, c));
     line("hypot", &inputs, |&[_, x, y]| unsafe { jengafir_hypot(x, y) }, |&[_, x, y]| x.hypot(y));
+    line("floor", &inputs, |&[_, x, _]| unsafe { jengafir_floor(x) }, |&[_, x, _]| x.floor());
+    line("ceil", &inputs, |&[_, x, _]| unsafe { jengafir_ceil(x) }, |&[_, x, _]| x.ceil());
+    line("round", &inputs, |&[_, x, _]| unsafe { jengafir_round(x) }, |&[_, x, _]| x.round());
+    line("abs", &inputs, |&[_, x, _]| unsafe { jengafir_abs(x) }, |&[_, x, _]| x.abs());
+    let degrees = |&[_, x, _]: &Input| x.rem_euclid(360.0);
+    line("rem_euclid_360", &inputs, |&[_, x, _]| unsafe { jengafir_rem_euclid_360(x) }, degrees);
 }

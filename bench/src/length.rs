@@ -1,6 +1,7 @@
-//! Times the length of command lists, through the C interface, against the Rust's own function over its stand-ins.
+//! Times the length of command lists, through the C interface, against the Rust's own function over its stand-ins,
+//! and finding a command, for which Rust has no function.
 
-use crate::timing::{compare, Unit};
+use crate::timing::{alone, compare, Unit};
 use crate::unit_numbers;
 use source::Path;
 
@@ -12,19 +13,28 @@ extern "C" {
         numbers_len: usize,
         length: *mut f32,
     ) -> u32;
+    fn jengafir_command(
+        codes: *const u8,
+        codes_len: usize,
+        numbers: *const f32,
+        numbers_len: usize,
+        k: usize,
+        start: *mut usize,
+        count: *mut usize,
+    ) -> u32;
 }
 
 const COMMANDS: usize = 1_024;
 const LISTS: usize = 16;
 /// Of a list the commands after its move are counted.
-const A_COMMAND: Unit = ("command", COMMANDS);
+pub const A_COMMAND: Unit = ("command", COMMANDS);
 
 const LINE: u8 = 1;
 const CUBIC: u8 = 2;
 const QUAD: u8 = 4;
 
 /// The kinds of commands that draw, and their names.
-const KINDS: [(&str, u8); 3] = [("lines", LINE), ("quads", QUAD), ("cubics", CUBIC)];
+pub const KINDS: [(&str, u8); 3] = [("lines", LINE), ("quads", QUAD), ("cubics", CUBIC)];
 
 /// A move and commands of one kind, between points from -4096 to 4096.
 fn list(unit: &mut impl FnMut() -> f32, code: u8) -> Path {
@@ -39,7 +49,7 @@ fn list(unit: &mut impl FnMut() -> f32, code: u8) -> Path {
     Path { codes, numbers }
 }
 
-fn lists(code: u8) -> Vec<Path> {
+pub fn lists(code: u8) -> Vec<Path> {
     let mut unit = unit_numbers();
     (0..LISTS).map(|_| list(&mut unit, code)).collect()
 }
@@ -53,9 +63,31 @@ fn length(list: &Path) -> u32 {
     length.to_bits()
 }
 
+/// Where the numbers of the last command stand.
+fn last_command(list: &Path) -> u32 {
+    let (mut start, mut count) = (0, 0);
+    let (codes, numbers) = (&list.codes, &list.numbers);
+    let refusal = unsafe {
+        jengafir_command(
+            codes.as_ptr(),
+            codes.len(),
+            numbers.as_ptr(),
+            numbers.len(),
+            COMMANDS,
+            &mut start,
+            &mut count,
+        )
+    };
+    assert_eq!(refusal, 0);
+    (start + count) as u32
+}
+
 pub fn run() {
     for (name, code) in KINDS {
         let theirs = |list: &Path| source::path_length(list).to_bits();
         compare(&format!("length, {name}"), A_COMMAND, &lists(code), length, theirs);
+    }
+    for (name, code) in KINDS {
+        alone(&format!("command, {name}"), A_COMMAND, &lists(code), last_command);
     }
 }

@@ -1,8 +1,11 @@
-//! Times the library's functions, called through its C interface, against Rust's.
+//! Times every function of the C interface, called through it, against Rust's.
 
 #[cfg(drawing)]
 mod draw;
+mod estimate;
 mod float;
+#[cfg(drawing)]
+mod item;
 #[cfg(drawing)]
 mod length;
 #[cfg(drawing)]
@@ -27,9 +30,11 @@ fn unit_numbers() -> impl FnMut() -> f32 {
 fn main() {
     timing::heading();
     float::run();
+    estimate::run();
     #[cfg(drawing)]
     {
         draw::run();
+        item::run();
         merge::run();
         length::run();
         trim::run();

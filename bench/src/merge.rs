@@ -1,5 +1,6 @@
 //! Times merges, through the C interface, against the Rust's own function over its stand-ins.
 
+use crate::item::{rectangle, RC};
 use crate::timing::compare;
 use crate::unit_numbers;
 use source::{BezierPath, BezierVertex, ShapeItem};
@@ -22,7 +23,6 @@ extern "C" {
 }
 
 const SH: u32 = 1;
-const RC: u32 = 2;
 const MM: u32 = 13;
 const VERTICES: usize = 100;
 /// So many merges that no processor remembers which segments are lines.
@@ -53,19 +53,12 @@ impl Merge {
     }
 }
 
-/// Rectangles from -4096 to 4096, up to 512 in size, with this part of half their smaller side as roundness.
+/// Rectangles with this part of half their smaller side as roundness.
 fn rectangles(unit: &mut impl FnMut() -> f32, roundness: f32) -> Merge {
     Merge::new(RC, 100, |numbers| {
-        let [x, y, width, height] = [unit() * 4096.0, unit() * 4096.0, 260.0 + unit() * 252.0, 260.0 + unit() * 252.0];
-        let roundness = width.min(height) * 0.5 * roundness;
-        numbers.extend([x, y, width, height, roundness]);
-        ShapeItem {
-            item_type: "rc".to_string(),
-            position: Some([x, y]),
-            size: Some([width, height]),
-            roundness: Some(roundness),
-            ..ShapeItem::default()
-        }
+        let rectangle = rectangle(unit, roundness);
+        numbers.extend(rectangle.numbers);
+        rectangle.item
     })
 }
 

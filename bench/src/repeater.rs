@@ -1,11 +1,19 @@
-//! Times copy 4,000 of repeaters, through the C interface, against the Rust's own function over its stand-ins.
+//! Times repeaters, through the C interface, against the Rust's own functions over their stand-ins.
 
 use crate::timing::compare;
 use crate::trim::bits;
 use crate::unit_numbers;
 use source::RepeaterStyle;
+use std::hint::black_box;
 
 extern "C" {
+    fn jengafir_copy_order(
+        repeater: *const f32,
+        mode: u8,
+        order: *mut u32,
+        order_len: usize,
+        order_count: *mut usize,
+    ) -> u32;
     fn jengafir_copy_transform(
         repeater: *const f32,
         mode: u8,
@@ -53,6 +61,21 @@ fn style(numbers: &[f32; 11], mode: u8) -> RepeaterStyle {
     }
 }
 
+/// Puts the order down with ours, and gives the number of copies and the first of them, added up.
+fn order(repeater: &[f32; 11], mode: u8, order: &mut [u32]) -> u32 {
+    let mut count = 0;
+    let refusal =
+        unsafe { jengafir_copy_order(repeater.as_ptr(), mode, order.as_mut_ptr(), order.len(), &mut count) };
+    assert_eq!(refusal, 0);
+    count as u32 + order[0]
+}
+
+/// The Rust's order is a list of its own, as in its source.
+fn their_order(repeater: &[f32; 11], mode: u8) -> u32 {
+    let order = black_box(source::copy_order(&style(repeater, mode)));
+    (order.len() + order[0]) as u32
+}
+
 fn transform(repeater: &[f32; 11]) -> u32 {
     let mut matrix = [0.0; 7];
     let mut count = 0;
@@ -68,5 +91,10 @@ fn their_transform(repeater: &[f32; 11]) -> u32 {
 
 pub fn run() {
     let repeaters = repeaters();
+    for (call, mode) in [("copy_order, mode 1", 1), ("copy_order, mode 2", 2)] {
+        let mut places = [0; COPIES];
+        let ours = |r: &[f32; 11]| order(r, mode, black_box(&mut places));
+        compare(call, ("order", 1), &repeaters, ours, |r| their_order(r, mode));
+    }
     compare("copy_transform, 4,000", ("call", 1), &repeaters, transform, their_transform);
 }

@@ -23,13 +23,15 @@ pub fn heading() {
     println!("{:24}{:>9}{:>9}{:>8}  ns per", "", "ours", "Rust", "ratio");
 }
 
-/// Prints the best times of ours and of theirs over all inputs.
-fn line<I>(call: &str, unit: Unit, inputs: &[I], ours: f64, theirs: f64) {
+/// Prints the best times of ours and of theirs over all inputs; a dash where Rust has no such function.
+fn line<I>(call: &str, unit: Unit, inputs: &[I], ours: f64, theirs: Option<f64>) {
     let figure = |time: f64| {
         let each = time / (unit.1 * inputs.len()) as f64;
         format!("{each:.*}", if each < 100.0 { 2 } else { 0 })
     };
-    println!("{call:24}{:>9}{:>9}{:>8.2}  {}", figure(ours), figure(theirs), ours / theirs, unit.0);
+    let dash = || "-".to_string();
+    let ratio = theirs.map_or_else(dash, |theirs| format!("{:.2}", ours / theirs));
+    println!("{call:24}{:>9}{:>9}{ratio:>8}  {}", figure(ours), theirs.map_or_else(dash, figure), unit.0);
 }
 
 /// Times ours and theirs in turn, and says so where their results are not the same.
@@ -48,8 +50,14 @@ pub fn compare<I>(
         best = [best[0].min(our_time), best[1].min(their_time)];
         same &= our_sum == their_sum;
     }
-    line(call, unit, inputs, best[0], best[1]);
+    line(call, unit, inputs, best[0], Some(best[1]));
     if !same {
         println!("    the results of {call} differ");
     }
+}
+
+/// Times ours where Rust has no such function.
+pub fn alone<I>(call: &str, unit: Unit, inputs: &[I], mut ours: impl FnMut(&I) -> u32) {
+    let best = (0..ROUNDS).map(|_| time(inputs, &mut ours).0).fold(f64::INFINITY, f64::min);
+    line(call, unit, inputs, best, None);
 }

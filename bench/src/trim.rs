@@ -1,8 +1,9 @@
-//! Times trim ranges, through the C interface, against the Rust's own function.
+//! Times trims, through the C interface, against the Rust's own functions over their stand-ins.
 
+use crate::length::{lists, A_COMMAND, KINDS};
 use crate::timing::compare;
 use crate::unit_numbers;
-use source::TrimStyle;
+use source::{Path, TrimStyle};
 
 extern "C" {
     fn jengafir_trim_ranges(
@@ -10,6 +11,19 @@ extern "C" {
         end: f32,
         offset: f32,
         ranges: *mut f32,
+        range_count: *mut usize,
+        whole: *mut u32,
+    ) -> u32;
+    fn jengafir_trim_lengths(
+        start: f32,
+        end: f32,
+        offset: f32,
+        mode: u8,
+        codes: *const u8,
+        codes_len: usize,
+        numbers: *const f32,
+        numbers_len: usize,
+        cuts: *mut f32,
         range_count: *mut usize,
         whole: *mut u32,
     ) -> u32;
@@ -46,11 +60,45 @@ fn ranges(trim: &TrimStyle) -> u32 {
 }
 
 /// The Rust's ranges are a list of their own, as in its source.
-fn theirs(trim: &TrimStyle) -> u32 {
+fn their_ranges(trim: &TrimStyle) -> u32 {
     let (ranges, full) = source::trim_ranges(trim);
     bits(ranges.iter().flat_map(|(start, end)| [start, end])).wrapping_add(full as u32)
 }
 
+/// A trim and the path that it trims.
+type Trimmed = (TrimStyle, Path);
+
+fn cuts((trim, path): &Trimmed) -> u32 {
+    let mut cuts = [0.0; 6];
+    let (mut count, mut whole) = (0, 0);
+    let refusal = unsafe {
+        jengafir_trim_lengths(
+            trim.start,
+            trim.end,
+            trim.offset_degrees,
+            trim.mode,
+            path.codes.as_ptr(),
+            path.codes.len(),
+            path.numbers.as_ptr(),
+            path.numbers.len(),
+            cuts.as_mut_ptr(),
+            &mut count,
+            &mut whole,
+        )
+    };
+    assert_eq!(refusal, 0);
+    bits(&cuts[..3 * count])
+}
+
+/// The lengths that the Rust hands to its dashes. No path here is visible whole, so each is cut.
+fn their_cuts((trim, path): &Trimmed) -> u32 {
+    bits(&source::trimmed(path, trim).unwrap().numbers)
+}
+
 pub fn run() {
-    compare("trim_ranges", ("trim", 1), &trims(), ranges, theirs);
+    compare("trim_ranges", ("trim", 1), &trims(), ranges, their_ranges);
+    for (name, code) in KINDS {
+        let trimmed: Vec<Trimmed> = trims().into_iter().zip(lists(code)).collect();
+        compare(&format!("trim_lengths, {name}"), A_COMMAND, &trimmed, cuts, their_cuts);
+    }
 }

@@ -1,0 +1,86 @@
+//! Times drawing rectangles, through the C interface, against the Rust's own function over its stand-ins.
+
+use crate::timing::compare;
+use crate::unit_numbers;
+use source::ShapeItem;
+use std::hint::black_box;
+
+extern "C" {
+    fn jengafir_draw_item(
+        row: *const u32,
+        row_len: usize,
+        items: *const f32,
+        items_len: usize,
+        codes: *mut u8,
+        codes_len: usize,
+        numbers: *mut f32,
+        numbers_len: usize,
+        codes_written: *mut usize,
+        numbers_written: *mut usize,
+    ) -> u32;
+}
+
+pub const RC: u32 = 2;
+const RECTANGLES: usize = 1_024;
+/// No rectangle has more codes or numbers.
+const MOST_CODES: usize = 10;
+const MOST_NUMBERS: usize = 34;
+
+/// A rectangle, in the form of either side.
+pub struct Rectangle {
+    pub numbers: [f32; 5],
+    pub item: ShapeItem,
+}
+
+/// From -4096 to 4096, up to 512 in size, with this part of half its smaller side as roundness.
+pub fn rectangle(unit: &mut impl FnMut() -> f32, roundness: f32) -> Rectangle {
+    let [x, y, width, height] = [unit() * 4096.0, unit() * 4096.0, 260.0 + unit() * 252.0, 260.0 + unit() * 252.0];
+    let roundness = width.min(height) * 0.5 * roundness;
+    let item = ShapeItem {
+        item_type: "rc".to_string(),
+        position: Some([x, y]),
+        size: Some([width, height]),
+        roundness: Some(roundness),
+        ..ShapeItem::default()
+    };
+    Rectangle { numbers: [x, y, width, height, roundness], item }
+}
+
+/// Draws with ours, and gives how many numbers were written.
+fn draw(rectangle: &Rectangle, codes: &mut [u8], numbers: &mut [f32]) -> u32 {
+    let row = [RC, 0, 0, 0, 0, 0];
+    let mut written = [0; 2];
+    let [codes_written, numbers_written] = &mut written;
+    let refusal = unsafe {
+        jengafir_draw_item(
+            row.as_ptr(),
+            row.len(),
+            rectangle.numbers.as_ptr(),
+            rectangle.numbers.len(),
+            codes.as_mut_ptr(),
+            codes.len(),
+            numbers.as_mut_ptr(),
+            numbers.len(),
+            codes_written,
+            numbers_written,
+        )
+    };
+    assert_eq!(refusal, 0);
+    written[1] as u32
+}
+
+/// Draws with theirs, and gives how many numbers were written.
+fn theirs(rectangle: &Rectangle) -> u32 {
+    black_box(source::rect_path(&rectangle.item)).unwrap().numbers.len() as u32
+}
+
+pub fn run() {
+    for (call, roundness) in [("draw_item, plain", 0.0), ("draw_item, round", 0.5)] {
+        let mut unit = unit_numbers();
+        let rectangles: Vec<Rectangle> = (0..RECTANGLES).map(|_| rectangle(&mut unit, roundness)).collect();
+        let mut codes = [0; MOST_CODES];
+        let mut numbers = [0.0; MOST_NUMBERS];
+        let ours = |r: &Rectangle| draw(r, &mut codes, black_box(&mut numbers));
+        compare(call, ("rectangle", 1), &rectangles, ours, theirs);
+    }
+}
