@@ -1,6 +1,6 @@
 //! Times drawing vertex lists, through the C interface, against the Rust's own function over its stand-ins.
 
-use crate::timing::compare;
+use crate::timing::{compare, numbers_written};
 use crate::unit_numbers;
 use source::{BezierPath, BezierVertex};
 use std::hint::black_box;
@@ -51,9 +51,7 @@ fn drawing(unit: &mut impl FnMut() -> f32, lines_of_16: u32) -> Drawing {
 
 /// Draws with ours, and gives how many numbers were written.
 fn draw(drawing: &Drawing, codes: &mut [u8], numbers: &mut [f32]) -> u32 {
-    let mut written = [0; 2];
-    let [codes_written, numbers_written] = &mut written;
-    let refusal = unsafe {
+    numbers_written(|codes_written, numbers_written| unsafe {
         jengafir_draw_path(
             1,
             drawing.numbers.as_ptr(),
@@ -66,9 +64,7 @@ fn draw(drawing: &Drawing, codes: &mut [u8], numbers: &mut [f32]) -> u32 {
             codes_written,
             numbers_written,
         )
-    };
-    assert_eq!(refusal, 0);
-    written[1] as u32
+    })
 }
 
 /// Draws with theirs, and gives how many numbers were written.

@@ -1,6 +1,6 @@
 //! Times drawing rectangles, through the C interface, against the Rust's own function over its stand-ins.
 
-use crate::timing::compare;
+use crate::timing::{compare, numbers_written};
 use crate::unit_numbers;
 use source::ShapeItem;
 use std::hint::black_box;
@@ -49,9 +49,7 @@ pub fn rectangle(unit: &mut impl FnMut() -> f32, roundness: f32) -> Rectangle {
 /// Draws with ours, and gives how many numbers were written.
 fn draw(rectangle: &Rectangle, codes: &mut [u8], numbers: &mut [f32]) -> u32 {
     let row = [RC, 0, 0, 0, 0, 0];
-    let mut written = [0; 2];
-    let [codes_written, numbers_written] = &mut written;
-    let refusal = unsafe {
+    numbers_written(|codes_written, numbers_written| unsafe {
         jengafir_draw_item(
             row.as_ptr(),
             row.len(),
@@ -64,9 +62,7 @@ fn draw(rectangle: &Rectangle, codes: &mut [u8], numbers: &mut [f32]) -> u32 {
             codes_written,
             numbers_written,
         )
-    };
-    assert_eq!(refusal, 0);
-    written[1] as u32
+    })
 }
 
 /// Draws with theirs, and gives how many numbers were written.

@@ -1,7 +1,7 @@
 //! Times merges, through the C interface, against the Rust's own function over its stand-ins.
 
 use crate::item::{rectangle, RC};
-use crate::timing::compare;
+use crate::timing::{compare, numbers_written};
 use crate::unit_numbers;
 use source::{BezierPath, BezierVertex, ShapeItem};
 use std::hint::black_box;
@@ -79,9 +79,7 @@ fn paths(unit: &mut impl FnMut() -> f32) -> Merge {
 
 /// Merges with ours, and gives how many numbers were written.
 fn join(merge: &Merge, codes: &mut [u8], numbers: &mut [f32]) -> u32 {
-    let mut written = [0; 2];
-    let [codes_written, numbers_written] = &mut written;
-    let refusal = unsafe {
+    numbers_written(|codes_written, numbers_written| unsafe {
         jengafir_merge(
             merge.rows.as_ptr(),
             merge.rows.len(),
@@ -95,9 +93,7 @@ fn join(merge: &Merge, codes: &mut [u8], numbers: &mut [f32]) -> u32 {
             codes_written,
             numbers_written,
         )
-    };
-    assert_eq!(refusal, 0);
-    written[1] as u32
+    })
 }
 
 /// Merges with theirs, and gives how many numbers were written.

@@ -61,3 +61,11 @@ pub fn alone<I>(call: &str, unit: Unit, inputs: &[I], mut ours: impl FnMut(&I) -
     let best = (0..ROUNDS).map(|_| time(inputs, &mut ours).0).fold(f64::INFINITY, f64::min);
     line(call, unit, inputs, best, None);
 }
+
+/// Makes a call that is lent the places of its two counts, and gives how many numbers it wrote.
+pub fn numbers_written(call: impl FnOnce(*mut usize, *mut usize) -> u32) -> u32 {
+    let [mut codes_written, mut numbers_written] = [0; 2];
+    let refusal = call(&mut codes_written, &mut numbers_written);
+    assert_eq!(refusal, 0);
+    numbers_written as u32
+}
