@@ -1,7 +1,7 @@
 -- What each way out of a function of this crate owes, as the code meets it: a premise for each test and for each call's result.
 -- Assumes nothing.
 use mathlib.Core.Path.{_≡_, refl, sym, ap, _∙_, subst}
-use mathlib.Core.Bool.{Bool, true, false, cond, not, _&&_, _||_, true≢false}
+use mathlib.Core.Bool.{Bool, true, false, cond, not, _&&_, _||_, true≢false, and-eq-true-iff}
 use mathlib.Core.List.{List, [], _∷_}
 use Prim.Native.Nat.{ℕ, zero, suc, _+_, _-_, _*_, _^_, _≤_, _<_, zero-le}
 use native.Mathlib.Nat.{sub-zero, mul-one, le-trans}
@@ -292,22 +292,14 @@ sound-splits r e = go (lt mostOffset (r .copies)) (lt mostOffset (abs (r .offset
     go false false true d e = (refl, refl, refl)
     go false false false d e = fault-sound OutOfRange e
 
-first : (a b : Bool) → (a && b) ≡ true → a ≡ true
-first true b e = refl
-first false b e = e
-
-second : (a b : Bool) → (a && b) ≡ true → b ≡ true
-second true b e = e
-second false b e = absurd (true≢false (sym e))
-
 module _ (r : RepeaterStyle) (e : verdictOf r ≡ Sound) where
   pub copies-within : within countLimit (r .copies) ≡ true
   unfolding allWithin
-  copies-within = first (within repeaterLimit (r .copies)) _ (sound-splits r e .2)
+  copies-within = and-eq-true-iff (within repeaterLimit (r .copies)) _ .0 (sound-splits r e .2) .0
 
   offset-limit : within repeaterLimit (r .offset) ≡ true
   unfolding allWithin
-  offset-limit = first (within repeaterLimit (r .offset)) _ (second (within repeaterLimit (r .copies)) _ (sound-splits r e .2))
+  offset-limit = and-eq-true-iff (within repeaterLimit (r .offset)) _ .0 (and-eq-true-iff (within repeaterLimit (r .copies)) _ .0 (sound-splits r e .2) .1) .0
 
   pub offset-within : within mostOffset (r .offset) ≡ true
   offset-within = not-above (abs (r .offset)) (le-number-l (abs (r .offset)) repeaterLimit (subst T (sym offset-limit) tt)) (sound-splits r e .1)

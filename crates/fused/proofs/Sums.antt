@@ -4,7 +4,7 @@ use mathlib.Core.Logic.{_⊎_, inl, inr}
 use Prim.Native.Nat.{ℕ, _+_, _-_, _≤_, _<_, compare, Ordering, Ordering·lt, Ordering·eq, Ordering·gt}
 use native.Mathlib.Nat.{add-comm, le-of-lt, le-of-eq}
 use native.Mathlib.Omega.{arith}
-use mathlib.Core.Bool.{Bool, true, false, _&&_, Bool·beq}
+use mathlib.Core.Bool.{Bool, true, false, Bool·beq, and-true, and-false}
 use lib.Dec.{ltb, lt→ltb}
 use lib.Arith.{le→nltb}
 use lib.Ieee.{Format, round, sum}
@@ -29,19 +29,11 @@ module _ (f : Format) (s t : Bool) (a b c : ℕ) where
   pub sum-more : Bool·beq s t ≡ false → b < a → sum f s a t b c ≡ round f s (a - b) c
   unfolding sum
   sum-more h l = rw (h, not-less a b (le-of-lt l), is-less b a l) (ap (λ (x : Bool). round f x (a - b) c) (and-true s))
-    where
-      and-true : (s : Bool) → (s && true) ≡ s
-      and-true true = refl
-      and-true false = refl
 
   pub sum-none : Bool·beq s t ≡ false → a ≡ b → sum f s a t b c ≡ round f false 0 c
   unfolding sum
   sum-none h e = rw (h, not-less a b (le-of-eq (sym e)), not-less b a (le-of-eq e)) (λ i. round f (and-false s i) (gone i) c)
     where
-      and-false : (s : Bool) → (s && false) ≡ false
-      and-false true = refl
-      and-false false = refl
-
       gone : a - b ≡ 0
       gone = omega arith
 

@@ -1,9 +1,9 @@
 -- Commands that are written as codes and numbers read back as themselves, and a sound list is its commands written so.
 -- Assumes nothing.
 use mathlib.Core.Path.{_≡_, refl, sym, ap, _∙_}
-use mathlib.Core.Bool.{Bool, true, false, cond, _&&_, true≢false}
+use mathlib.Core.Bool.{Bool, true, false, cond, _&&_, and-eq-true-iff}
 use mathlib.Core.List.{List, [], _∷_, _++_, append-nil}
-use Prim.Native.Nat.{ℕ, zero, suc, _+_, _≤_}
+use Prim.Native.Nat.{ℕ, zero, suc, _≤_}
 use native.Mathlib.Omega.{arith}
 use lib.Ieee.{Float}
 use lib.ListN.{length, take, drop, length-append, take-append-drop}
@@ -44,10 +44,6 @@ listed (Cubic ax ay bx by x y) = omega arith
 listed Close = omega arith
 listed (Quad ax ay x y) = omega arith
 
-both : (a b : Bool) → (a && b) ≡ true → (a ≡ true) × (b ≡ true)
-both true b e = (refl, e)
-both false b e = absurd (true≢false (sym e))
-
 within-append : (limit : Float) (xs ys : List Float) → allWithin limit (xs ++ ys) ≡ (allWithin limit xs && allWithin limit ys)
 unfolding allWithin
 within-append limit [] ys = refl
@@ -77,7 +73,7 @@ read-command c codes v h =
 pub commands-read : (cs : List PathCommand) → allWithin commandLimit (numbersOf cs) ≡ true → readList (codesOf cs) (numbersOf cs) ≡ drawn cs
 commands-read [] h = unfold readList in refl
 commands-read (c ∷ cs) h =
-    let s = both (allWithin commandLimit (coordinatesOf c)) (allWithin commandLimit (numbersOf cs)) (sym (within-append commandLimit (coordinatesOf c) (numbersOf cs)) ∙ h) in
+    let s = and-eq-true-iff (allWithin commandLimit (coordinatesOf c)) (allWithin commandLimit (numbersOf cs)) .0 (sym (within-append commandLimit (coordinatesOf c) (numbersOf cs)) ∙ h) in
     read-command c (codesOf cs) (numbersOf cs) (s .0) ∙ ap (before c) (commands-read cs (s .1)) ∙ unfold before in refl
 
 -- the command read at the start of v has the code c, and its numbers are those of v

@@ -5,7 +5,7 @@
 --     ruling-flat       so the rule on items is the rule on rows
 -- Assumes nothing.
 use mathlib.Core.Path.{_≡_, refl, sym, ap, ap₂, _∙_}
-use mathlib.Core.Bool.{Bool, true, false, cond, not, _&&_, _||_, true≢false}
+use mathlib.Core.Bool.{Bool, true, false, cond, not, _&&_, _||_, true≢false, and-true, and-false, and-eq-true-iff}
 use mathlib.Core.List.{List, [], _∷_}
 use Prim.Native.Nat.{ℕ, zero, suc, _+_, _-_, _<_, _≤_}
 use native.Mathlib.Omega.{arith}
@@ -48,18 +48,6 @@ entries-are (r ∷ rs) i = rw (le-ltb (r .depth) 0 (omega arith)) (go (eqb (r .d
     go false e = e
 
 -- ---- a row at depth 0 is to the rule what its item is
-
-and-true : (b : Bool) → (b && true) ≡ b
-and-true true = refl
-and-true false = refl
-
-and-false : (b : Bool) → (b && false) ≡ false
-and-false true = refl
-and-false false = refl
-
-and-left : (a b : Bool) → (a && b) ≡ true → a ≡ true
-and-left true b e = refl
-and-left false b e = e
 
 top-is : (r : ItemRow) → eqb (r .depth) 0 ≡ true → isTop r ≡ isVisible r
 top-is r h = ap (λ (b : Bool). isVisible r && b) h ∙ and-true (isVisible r)
@@ -202,7 +190,7 @@ stop i k m c r rs U e =
       many = rw (U, q) (omega arith);
       named = rw U;
       rest = rw (U, p);
-      clean = λ back. rw (U, and-left (isMergeEntry (entryAt i r rs)) (eqb (r .mark) 1) U);
+      clean = λ back. rw (U, and-eq-true-iff (isMergeEntry (entryAt i r rs)) (eqb (r .mark) 1) .0 U .0);
     }
 
 -- the row r stands before the merge row
