@@ -2,5 +2,6 @@
 pub mod Ways
 pub mod Sources
 pub mod Sound
+pub mod Single
 pub mod Enlarged
 pub mod Read

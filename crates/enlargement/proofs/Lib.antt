@@ -1,5 +1,4 @@
 -- The claim, proved.
-pub mod Single
 pub mod Numbers
 pub mod Buffers
 pub mod Claim

@@ -45,7 +45,13 @@ use Rattle.copies.specs.Calls.{verdictOf, after, copyNumbers, allFinite, finite
 use Rattle.copies.proofs.Ways.{offset-within, count-few}
 use Rattle.enlargement.specs.Plates.{Plate, OfVertices, OfRow, OfMerge, OnGrid, GridAt, Made, of-nothing, of-vertices, of-row, of-merge, PlateOnGrid, times, enlargedRepeater, MultipliedAt}
 use Rattle.enlargement.specs.Claim.{lengthNumbers, shiftNumbers, multipliedNumbers}
-use Rattle.enlargement.proofs.Single.{Single, AllSingle, single-append, path-drawn-single, item-drawn-single, merge-drawn-single, length-single, cuts-single, copy-single}
+use Rattle.ieee.specs.Single.{Single, AllSingle}
+use Rattle.ieee.proofs.Single.{single-append}
+use Rattle.draw.proofs.Single.{path-drawn-single, item-drawn-single}
+use Rattle.join.proofs.Single.{merge-drawn-single}
+use Rattle.measure.proofs.Single.{length-single}
+use Rattle.cut.proofs.Single.{cuts-single}
+use Rattle.repeater.proofs.Single.{copy-single}
 
 -- ---- numbers
 

@@ -22,6 +22,7 @@ pub mod Isqrt
 pub mod Root
 pub mod Hypot
 pub mod Bounds
+pub mod Single
 pub mod Pattern
 pub mod Wide
 mod Cases

@@ -4,6 +4,7 @@ pub mod Operators
 pub mod Sign
 pub mod Choice
 pub mod Limit
+pub mod Single
 pub mod Whole
 pub mod Remainder
 pub mod Fused

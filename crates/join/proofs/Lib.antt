@@ -2,6 +2,7 @@
 pub mod Ways
 pub mod Joined
 pub mod Sound
+pub mod Single
 pub mod Read
 pub mod Enlarged
 mod Cases

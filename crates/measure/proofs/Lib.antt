@@ -2,4 +2,5 @@
 pub mod Ways
 pub mod Enlarged
 pub mod Rising
+pub mod Single
 mod Cases

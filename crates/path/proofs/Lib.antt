@@ -3,4 +3,5 @@ pub mod Paths
 pub mod Enlarged
 pub mod Counts
 pub mod Sound
+pub mod Single
 pub mod Ways

@@ -1,4 +1,5 @@
 -- What the proofs of `rect` cite.
 pub mod Enlarged
 pub mod Sound
+pub mod Single
 pub mod Ways

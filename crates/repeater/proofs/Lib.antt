@@ -1,4 +1,5 @@
 -- What the proofs of `repeater` cite.
 pub mod Ways
 pub mod Enlarged
+pub mod Single
 mod Cases
