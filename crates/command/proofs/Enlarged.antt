@@ -99,9 +99,6 @@ module _ {k q b : ℕ} where
     pub twin-line : CommandTwin k q b (Line x y) (Line x' y')
     twin-line = record { command = λ i. Line (X .is i) (Y .is i); grid = (X .grid, (Y .grid, tt)) }
 
-  pub twin-quad : {ax ax' ay ay' x x' y y' : Float} → Twin k q b ax ax' → Twin k q b ay ay' → Twin k q b x x' → Twin k q b y y' → CommandTwin k q b (Quad ax ay x y) (Quad ax' ay' x' y')
-  twin-quad AX AY X Y = record { command = λ i. Quad (AX .is i) (AY .is i) (X .is i) (Y .is i); grid = (AX .grid, (AY .grid, (X .grid, (Y .grid, tt)))) }
-
   pub twin-cubic : {ax ax' ay ay' bx bx' by by' x x' y y' : Float} → Twin k q b ax ax' → Twin k q b ay ay' → Twin k q b bx bx' → Twin k q b by by' → Twin k q b x x' → Twin k q b y y' → CommandTwin k q b (Cubic ax ay bx by x y) (Cubic ax' ay' bx' by' x' y')
   twin-cubic AX AY BX BY X Y = record {
     command = λ i. Cubic (AX .is i) (AY .is i) (BX .is i) (BY .is i) (X .is i) (Y .is i);

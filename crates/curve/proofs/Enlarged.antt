@@ -1,11 +1,10 @@
 -- The length of a line, a quad or a cubic whose coordinates are on a grid, enlarged by a power of two: it is multiplied too, as is the length after each of a curve's chords.
 -- Assumes nothing.
-use mathlib.Core.Path.{_≡_, refl, sym, subst}
-use mathlib.Core.Logic.{_⊎_, inl, inr}
+use mathlib.Core.Path.{refl}
 use mathlib.Core.Bool.{Bool, true, false, _&&_}
 use mathlib.Core.List.{List, [], _∷_}
 use Prim.Native.Nat.{ℕ, zero, suc, _+_, _≤_, _<_}
-use native.Mathlib.Nat.{le-refl, eq-or-lt-of-le, le-of-suc-le-suc}
+use native.Mathlib.Nat.{le-refl}
 use native.Mathlib.Omega.{arith}
 use lib.Dec.{T}
 use lib.Ieee.{Float, binary32, add, sub, mul, div, neg, ofInt, ofBits, ofFields, round, sum, size, units, odd, span, climb}
@@ -14,6 +13,7 @@ use Rattle.ieee.specs.Literal.{zero32, one32}
 use Rattle.ieee.specs.Operators.{_⊖_, _⊗_}
 use Rattle.ieee.specs.Fused.{fma}
 use Rattle.ieee.specs.Grid.{on, On, Twin}
+use Rattle.ieee.proofs.Tests.{allUpTo, up-to}
 use Rattle.ieee.proofs.Grid.{zero-on, on→On}
 use Rattle.ieee.proofs.Twins.{twin-weaken, twin-add-absorb, twin-sub, twin-mul-right, twin-fma}
 use Rattle.ieee.proofs.Hypot.{twin-hypot}
@@ -52,18 +52,6 @@ WeightsOn r (w ∷ ws) = On r 0 w × WeightsOn r ws
 weights-on : (r : ℕ) (ws : List Float) → T (weightsOn r ws) → WeightsOn r ws
 weights-on r [] t = tt
 weights-on r (w ∷ ws) t = (on→On r 0 w (and-l (on r 0 w) (weightsOn r ws) t), weights-on r ws (and-r (on r 0 w) (weightsOn r ws) t))
-
-abbrev allUpTo : ℕ → (ℕ → Bool) → Bool
-allUpTo zero p = p zero
-allUpTo (suc n) p = allUpTo n p && p (suc n)
-
-up-to : (n : ℕ) (p : ℕ → Bool) → T (allUpTo n p) → (i : ℕ) → i ≤ n → T (p i)
-up-to zero p t i h = let e : 0 ≡ i = omega arith in subst (λ (z : ℕ). T (p z)) e t
-up-to (suc n) p t i h = go (eq-or-lt-of-le h) (up-to n p (and-l (allUpTo n p) (p (suc n)) t) i)
-  where
-    go : (i ≡ suc n) ⊎ (i < suc n) → (i ≤ n → T (p i)) → T (p i)
-    go (inl e) ih = subst (λ (z : ℕ). T (p z)) (sym e) (and-r (allUpTo n p) (p (suc n)) t)
-    go (inr l) ih = ih (le-of-suc-le-suc l)
 
 quad-test : T (allUpTo 24 (λ n. weightsOn 33 (quadWeights (stepOf 24 n))))
 unfolding stepOf add sub neg mul div ofInt ofBits ofFields round sum size units odd span climb

@@ -1,13 +1,12 @@
 -- A path enlarged by a power of two has the same ranges, and its cut lengths are multiplied; one that is not too short stays so. Assumes nothing.
-use mathlib.Core.Path.{_≡_, refl, sym, ap, _∙_, subst}
-use mathlib.Core.Bool.{Bool, true, false, cond, _&&_, _||_}
+use mathlib.Core.Path.{_≡_, refl, sym, ap, subst}
+use mathlib.Core.Bool.{Bool, true, false, cond, _&&_}
 use mathlib.Core.List.{List, [], _∷_, map}
-use Prim.Native.Nat.{ℕ, _+_, _*_, _^_, _≤_, _<_}
-use native.Mathlib.Nat.{le-refl, zero-lt-suc, le-mul-of-pos-right, mul-pos, mul-comm, mul-assoc, mul-le-mul-right}
+use Prim.Native.Nat.{ℕ, _+_, _≤_}
+use native.Mathlib.Nat.{le-refl, zero-lt-suc}
 use native.Mathlib.Omega.{arith}
 use lib.Dec.{T, ltb}
-use lib.Pow.{pow-pos}
-use lib.Ieee.{Float, binary32, ofBits, ofFields, odd, le, below, level}
+use lib.Ieee.{Float, binary32, ofBits, ofFields, odd, le}
 use lib.Ieee.Exact.{HasValue}
 use lib.Ieee.Scale.{finite}
 use lib.Count.{trailingZeros}
@@ -15,11 +14,8 @@ use lib.ListN.{length}
 use Rattle.ieee.specs.Literal.{zero32, one32}
 use Rattle.ieee.specs.Operators.{_⊖_, _⊗_}
 use Rattle.ieee.specs.Grid.{scale, On, Twin}
-use Rattle.ieee.proofs.Signed.{Le, test→Le, Le→test}
-use Rattle.ieee.proofs.Value.{rescale, scale-val}
-use Rattle.ieee.proofs.Comparison.{le-at}
 use Rattle.ieee.proofs.Grid.{weaken, on→On, sub-on}
-use Rattle.ieee.proofs.Twins.{twin-mul, twin-max}
+use Rattle.ieee.proofs.Twins.{le-shrunk, twin-mul, twin-max}
 use Rattle.command.specs.declared.PathCommand.{PathCommand}
 use Rattle.command.specs.declared.Refusal.{Refusal}
 use Rattle.command.specs.declared.Refusal.the-variants.{TooMany, OutOfRange, Unlisted, TooShort}
@@ -79,30 +75,6 @@ module _ (k q b : ℕ) (total total' : Float) (Q : q + 37 ≤ 149) (B : b + 1 + 
       (cut-twins ends (E .1 .1))))
 
 -- ---- a length that is not too short, multiplied
--- ±n ≤ w where ±m ≤ w and n is no larger than m
-le-less : (s : Bool) (n m w : ℕ) → n ≤ m → Le s m false w → Le s n false w
-le-less true n m w h l = omega arith
-le-less false n m w h l = omega arith
-
--- where x times 2 ^ k is at most c, which is not negative, so is x
-le-shrunk : (k q b : ℕ) (x x' c : Float) (u v : ℕ) → 0 < v → HasValue c false u v → Twin k q b x x' → T (le x' c) → T (le x c)
-le-shrunk k q b x x' c u v pv C X t =
-    let s = X .grid .sign in
-    let n = X .grid .count in
-    let w = u * 2 ^ q in
-    let small = at x n (X .grid .value) in
-    let large = at (scale k x) (n * 2 ^ k) (scale-val k x s n (2 ^ q) (X .grid .value)) in
-    subst T (sym small)
-    (Le→test s (n * v) false w
-    (le-less s (n * v) (n * 2 ^ k * v) w (mul-le-mul-right v (le-mul-of-pos-right n (pow-pos k)))
-    (test→Le s (n * 2 ^ k * v) false w (subst T (ap (λ (z : Float). le z c) (X .is) ∙ large) t))))
-  where
-    at : (y : Float) (n : ℕ) → HasValue y (X .grid .sign) n (2 ^ q) → le y c ≡ (below (X .grid .sign) (n * v) false (u * 2 ^ q) || level (X .grid .sign) (n * v) false (u * 2 ^ q))
-    at y n Y =
-        le-at y c (X .grid .sign) false (n * v) (u * 2 ^ q) (2 ^ q * v) (mul-pos (pow-pos q) pv)
-        (rescale y (X .grid .sign) n (2 ^ q) (n * v) (2 ^ q * v) (pow-pos q) (mul-assoc n v (2 ^ q) ∙ ap (λ (z : ℕ). n * z) (mul-comm v (2 ^ q))) Y)
-        (rescale c false u v (u * 2 ^ q) (2 ^ q * v) pv (mul-assoc u (2 ^ q) v) C)
-
 shortest-value : HasValue shortest false 1 8388608
 unfolding ofBits ofFields odd trailingZeros
 shortest-value = (refl, refl)

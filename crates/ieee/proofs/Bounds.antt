@@ -10,7 +10,7 @@ use lib.IntN.{ℤ, pos}
 use lib.Dec.{T, lit≤}
 use lib.ListN.{length, getD, take}
 use lib.Pow.{pow-add, pow-pos, pow-mono, pow-lt}
-use lib.Ieee.{Float, nan, inf, fin, Format, binary32, binary64, prec, emax, low, up, down, unlike, round, neg, sum, add, sub, mul, lt, le, fits, isNan}
+use lib.Ieee.{Float, nan, inf, fin, Format, binary32, binary64, prec, emax, low, up, down, unlike, round, neg, sum, add, sub, mul, lt, le, isNan}
 use lib.Ieee.Fits.{down-pos}
 use lib.Ieee.Bits.{is-true}
 use lib.Ieee.Exact.{HasValue}
@@ -29,7 +29,6 @@ use Rattle.ieee.proofs.Round.{prec-pos, round-cut, below-top}
 use Rattle.ieee.proofs.Signed.{P, N, Le}
 use Rattle.ieee.proofs.Sum.{sum-of}
 use Rattle.ieee.proofs.Operations.{sub-is}
-use Rattle.ieee.proofs.Grid.{fits-on}
 use Rattle.ieee.proofs.Order.{le→Le, le-number-l, le-number-r, not-lt→le, round-le}
 use Rattle.ieee.proofs.Monotone.{zero-is}
 use Rattle.ieee.proofs.Choice.{at-least-ge}
@@ -61,21 +60,21 @@ bounded-weaken a b nan h X = X
 bounded-weaken a b (inf s) h X = X
 bounded-weaken a b (fin s m e) h X = le-trans X (mul-le-mul-right (down e) h)
 
--- a grid's bound is one, and a number that the format holds is on its finest grid
+-- a grid's bound is one
 pub on-bounded : (q b : ℕ) (x : Float) → On q b x → Bounded (2 ^ b) x
 on-bounded q b x X = value-bounded (2 ^ b) x (X .sign) (X .count) (2 ^ q) (pow-pos q) (X .value) (le-trans (X .bound) (le-of-eq (pow-add 2 b q)))
 
-pub bounded-on : (f : Format) (b : ℕ) (x : Float) → T (fits f x) → Bounded (2 ^ b) x → On (low f) b x
-bounded-on f b nan t X = absurd X
-bounded-on f b (inf s) t X = absurd X
-bounded-on f b (fin s m e) t X =
-    let w = fits-on f s m e t in
-    record {
-      sign = w .sign;
-      count = w .count;
-      value = w .value;
-      bound = le-of-mul-le-mul-right (le-trans (le-of-eq (sym (w .value .1))) (le-trans (mul-le-mul-right (2 ^ low f) X) (le-of-eq (mul-right-comm (2 ^ b) (down e) (2 ^ low f) ∙ ap (λ (z : ℕ). z * down e) (sym (pow-add 2 b (low f))))))) (down-pos e);
-    }
+-- a tighter bound
+pub tighten : (q b c : ℕ) (x : Float) → On q b x → Bounded (2 ^ c) x → On q c x
+tighten q b c x X B = record { sign = X .sign; count = X .count; value = X .value; bound = go x (X .sign) (X .count) (X .value) B }
+  where
+    go : (x : Float) (s : Bool) (n : ℕ) → HasValue x s n (2 ^ q) → Bounded (2 ^ c) x → n ≤ 2 ^ (c + q)
+    go nan s n v B = absurd v
+    go (inf t) s n v B = absurd v
+    go (fin t m e) s n v B =
+        le-of-mul-le-mul-right
+        (le-trans (le-of-eq (sym (v .1))) (le-trans (mul-le-mul-right (2 ^ q) B) (le-of-eq (mul-right-comm (2 ^ c) (down e) (2 ^ q) ∙ ap (λ (z : ℕ). z * down e) (sym (pow-add 2 c q))))))
+        (down-pos e)
 
 -- what stands between two bounded numbers
 under : (n K M De Dg : ℕ) → 0 < De → K * De ≤ M * Dg → M ≤ n * De → K ≤ n * Dg

@@ -15,10 +15,10 @@ use lib.Ieee.Scale.{finite}
 use lib.Ieee.Positive.{positive}
 use Rattle.ieee.specs.Literal.{zero32, one32}
 use Rattle.ieee.proofs.Round.{round-own}
-use Rattle.ieee.proofs.Operations.{unlike-false, sub-is, mul-swap}
+use Rattle.ieee.proofs.Operations.{unlike-false, sub-is}
 use Rattle.ieee.proofs.Signed.{P, N, Le, Le-mul, Le-zeros}
 use Rattle.ieee.proofs.Sum.{sum-of, total-mul}
-use Rattle.ieee.proofs.Order.{le→Le, le-number-r, le-trans, neg-le, round-le, extend}
+use Rattle.ieee.proofs.Order.{le→Le, le-number-r, le-trans, round-le, extend}
 
 -- ---- the literals
 pub zero-is : zero32 ≡ fin false 0 (pos 0)
@@ -114,12 +114,6 @@ pub sub-le : (f : Format) (z x y : Float) → T (finite z) → T (le x y) → T 
 sub-le f z x y F h =
     subst (λ (v : Float). T (le v (sub f y z))) (sym (sub-is f x z))
     (subst (λ (v : Float). T (le (add f x (neg z)) v)) (sym (sub-is f y z)) (add-le f (neg z) x y (neg-finite z F) h))
-
-pub sub-le-right : (f : Format) (x y z : Float) → T (finite x) → T (finite y) → T (finite z) → T (le y z) → T (le (sub f x z) (sub f x y))
-sub-le-right f x y z X Y Z h =
-    subst (λ (v : Float). T (le v (sub f x y))) (sym (sub-is f x z))
-    (subst (λ (v : Float). T (le (add f x (neg z)) v)) (sym (sub-is f x y))
-    (add-le-right f x (neg z) (neg y) X (neg-finite z Z) (neg-finite y Y) (neg-le y z h)))
 
 -- ---- x ≤ x + y for 0 ≤ y
 add-ge-fin : (f : Format) (s : Bool) (m : ℕ) (e : ℤ) (u : Bool) (k : ℕ) (g : ℤ) → T (fits f (fin s m e)) → T (le (fin false 0 (pos 0)) (fin u k g)) → T (le (fin s m e) (add f (fin s m e) (fin u k g)))
@@ -218,19 +212,6 @@ mul-le-finite f z x y Z X Y h k = go z x y Z X Y (subst (λ (v : Float). T (le v
       where
         zero-of : (a b : ℕ) → a + b * 1 ≤ 0 + 0 → b ≡ 0
         zero-of a b h = omega arith
-
-pub mul-le-right : (f : Format) (x y z : Float) → T (finite x) → T (finite y) → T (finite z) → T (le zero32 x) → T (le y z) → T (le (mul f x y) (mul f x z))
-mul-le-right f x y z X Y Z h k =
-    subst (λ (v : Float). T (le v (mul f x z))) (mul-swap f y x)
-    (subst (λ (v : Float). T (le (mul f y x) v)) (mul-swap f z x) (mul-le-finite f x y z X Y Z h k))
-
-pub mul-one32 : (f : Format) (x : Float) → T (fits f x) → T (finite x) → mul f x one32 ≡ x
-mul-one32 f nan t F = absurd F
-mul-one32 f (inf s) t F = absurd F
-mul-one32 f (fin s m e) t F =
-    ap (mul f (fin s m e)) one-is ∙ mul-plus f s m e 1 (pos 0)
-    ∙ (λ i. round f s (mul-one (m * up e) i) (mul-one (down e) i))
-    ∙ round-own f (fin s m e) s (m * up e) (down e) t (down-pos e) (refl, refl)
 
 -- ---- quotients by a number above zero
 div-is : (f : Format) (s : Bool) (m : ℕ) (e : ℤ) (k : ℕ) (g : ℤ) → T (ltb 0 k) → div f (fin s m e) (fin false k g) ≡ round f s (m * up e * down g) (k * up g * down e)

@@ -1,11 +1,13 @@
--- Tests of whole numbers: what `compare` says, and that a common factor changes no test. Assumes nothing.
-use mathlib.Core.Path.{_≡_, refl, ap, subst}
-use Prim.Native.Nat.{ℕ, _*_, _≤_, _<_, compare, Ordering, Ordering·lt, Ordering·eq, Ordering·gt}
-use native.Mathlib.Nat.{le-of-lt, lt-irrefl, mul-lt-mul-of-pos-right, lt-of-mul-lt-mul-right, eq-of-mul-eq-mul-right}
-use mathlib.Core.Bool.{Bool, true, false, not}
+-- Tests of whole numbers: what `compare` says, that a common factor changes no test, and tests of every number of a range. Assumes nothing.
+use mathlib.Core.Path.{_≡_, refl, sym, ap, subst}
+use mathlib.Core.Logic.{_⊎_, inl, inr}
+use Prim.Native.Nat.{ℕ, zero, suc, _*_, _≤_, _<_, compare, Ordering, Ordering·lt, Ordering·eq, Ordering·gt}
+use native.Mathlib.Nat.{le-of-lt, lt-irrefl, mul-lt-mul-of-pos-right, lt-of-mul-lt-mul-right, eq-of-mul-eq-mul-right, eq-or-lt-of-le, le-of-suc-le-suc}
+use native.Mathlib.Omega.{arith}
+use mathlib.Core.Bool.{Bool, true, false, not, _&&_}
 use lib.Dec.{T, isLe, isEq, ltb, eqb, leb→le, le→leb, nleb→lt, ltb→lt, lt→ltb, eqb→eq, eqb-refl}
 use lib.Arith.{lt-of-le-ne, lt→nleb}
-use lib.Ieee.Fits.{eq→eqb}
+use lib.Ieee.Fits.{eq→eqb, and-l, and-r}
 
 pub same-test : (a b : Bool) → (T a → T b) → (T b → T a) → a ≡ b
 same-test true true p q = refl
@@ -71,3 +73,16 @@ compare-mul a b u U = go (compare a b) (cmp a b)
     go Ordering·lt h = compare-lt (a * u) (b * u) (mul-lt-mul-of-pos-right h U)
     go Ordering·eq e = compare-eq (a * u) (b * u) (ap (λ (x : ℕ). x * u) e)
     go Ordering·gt h = compare-gt (a * u) (b * u) (mul-lt-mul-of-pos-right h U)
+
+-- ---- a test of every number up to n, computed once
+abbrev pub allUpTo : ℕ → (ℕ → Bool) → Bool
+allUpTo zero p = p zero
+allUpTo (suc n) p = allUpTo n p && p (suc n)
+
+pub up-to : (n : ℕ) (p : ℕ → Bool) → T (allUpTo n p) → (i : ℕ) → i ≤ n → T (p i)
+up-to zero p t i h = let e : 0 ≡ i = omega arith in subst (λ (z : ℕ). T (p z)) e t
+up-to (suc n) p t i h = go (eq-or-lt-of-le h) (up-to n p (and-l (allUpTo n p) (p (suc n)) t) i)
+  where
+    go : (i ≡ suc n) ⊎ (i < suc n) → (i ≤ n → T (p i)) → T (p i)
+    go (inl e) ih = subst (λ (z : ℕ). T (p z)) (sym e) (and-r (allUpTo n p) (p (suc n)) t)
+    go (inr l) ih = ih (le-of-suc-le-suc l)

@@ -1,16 +1,24 @@
 -- One law for each operation: where the operands are multiplied by 2 ^ k, so is the result, and it is on a grid again. These are the laws to cite. Assumes nothing.
 use mathlib.Core.Path.{_≡_, refl, sym, ap, _∙_, subst}
-use Prim.Native.Nat.{ℕ, zero, suc, _+_, _≤_, _<_}
+use Prim.Native.Nat.{ℕ, zero, suc, _+_, _*_, _^_, _≤_, _<_}
+use native.Mathlib.Nat.{add-comm, mul-pos, mul-comm, mul-assoc, mul-le-mul-right, le-mul-of-pos-right}
 use native.Mathlib.Omega.{arith}
-use mathlib.Core.Bool.{Bool, true, false, cond}
-use lib.Ieee.{Float, nan, inf, fin, Format, prec, emax, low, neg, add, sub, mul, lt, le, eq, isNan}
+use mathlib.Core.Bool.{Bool, true, false, cond, _||_}
+use lib.Dec.{T}
+use lib.Pow.{pow-pos}
+use lib.Ieee.{Float, nan, inf, fin, Format, prec, emax, low, neg, add, sub, mul, lt, le, eq, isNan, below, level}
+use lib.Ieee.Exact.{HasValue}
 use Rattle.ieee.specs.Sign.{abs}
 use Rattle.ieee.specs.Choice.{min, max, atLeast, atMost, clamp}
 use Rattle.ieee.specs.Fused.{fma}
+use Rattle.ieee.specs.Cut.{cut}
 use Rattle.ieee.specs.Grid.{scale, On, Twin}
-use Rattle.ieee.proofs.Comparison.{lt-scale, le-scale, eq-scale}
+use Rattle.ieee.proofs.Value.{rescale, scale-val}
+use Rattle.ieee.proofs.Signed.{Le, test→Le, Le→test}
+use Rattle.ieee.proofs.Comparison.{le-at, lt-scale, le-scale, eq-scale}
 use Rattle.ieee.proofs.Operations.{mul-swap, fma-swap}
-use Rattle.ieee.proofs.Grid.{weaken, neg-on, abs-on, neg-scale, abs-scale, add-on, add-scale, add-on-absorb, add-scale-absorb, sub-on, sub-scale, mul-on, mul-scale, fma-on, fma-scale}
+use Rattle.ieee.proofs.Round.{prec-pos}
+use Rattle.ieee.proofs.Grid.{weaken, neg-on, abs-on, neg-scale, abs-scale, absorbed, add-on-at, add-scale-at, add-on, add-scale, add-on-absorb, add-scale-absorb, sub-on, sub-scale, mul-on, mul-scale, fma-on, fma-scale}
 
 less : (b k E : ℕ) → b + k ≤ E → b ≤ E
 less b k E h = omega arith
@@ -39,6 +47,18 @@ twin-add-absorb f k q b c x x' y y' Q B C X Y = record {
   grid = add-on-absorb f q b c x y Q (less b k (emax f) B) C (X .grid) (Y .grid);
   is = (λ i. add f (X .is i) (Y .is i)) ∙ add-scale-absorb f q b c k x y Q B C (X .grid) (Y .grid);
 }
+
+-- the same with the small one first
+pub twin-add-absorb-right : (f : Format) (k q b c : ℕ) (x x' y y' : Float) → q ≤ low f → b + k ≤ emax f → c + prec f < b → Twin k q c x x' → Twin k q b y y' → Twin k q b (add f x y) (add f x' y')
+twin-add-absorb-right f k q b c x x' y y' Q B C X Y = record {
+  grid = add-on-at f q Q c b x y (X .grid) (Y .grid) b (less b k (emax f) B) few;
+  is = (λ i. add f (X .is i) (Y .is i)) ∙ add-scale-at f q Q c b x y (X .grid) (Y .grid) b k B few;
+}
+  where
+    few : cut (prec f) (X .grid .count + Y .grid .count) ≤ 2 ^ (b + q)
+    few =
+        subst (λ (n : ℕ). cut (prec f) n ≤ 2 ^ (b + q)) (add-comm (Y .grid .count) (X .grid .count))
+        (absorbed (prec f) q b c (Y .grid .count) (X .grid .count) (prec-pos f) C (Y .grid .bound) (X .grid .bound))
 
 pub twin-sub : (f : Format) (k q b : ℕ) (x x' y y' : Float) → q ≤ low f → suc b + k ≤ emax f → Twin k q b x x' → Twin k q b y y' → Twin k q (suc b) (sub f x y) (sub f x' y')
 twin-sub f k q b x x' y y' Q B X Y = record {
@@ -79,6 +99,30 @@ twin-le k q b q' b' x x' y y' X Y = (λ i. le (X .is i) (Y .is i)) ∙ le-scale 
 
 pub twin-eq : (k q b q' b' : ℕ) (x x' y y' : Float) → Twin k q b x x' → Twin k q' b' y y' → eq x' y' ≡ eq x y
 twin-eq k q b q' b' x x' y y' X Y = (λ i. eq (X .is i) (Y .is i)) ∙ eq-scale k x y
+
+-- ±n ≤ w where ±m ≤ w and n is no larger than m
+le-less : (s : Bool) (n m w : ℕ) → n ≤ m → Le s m false w → Le s n false w
+le-less true n m w h l = omega arith
+le-less false n m w h l = omega arith
+
+-- where x times 2 ^ k is at most c, which is not negative, so is x
+pub le-shrunk : (k q b : ℕ) (x x' c : Float) (u v : ℕ) → 0 < v → HasValue c false u v → Twin k q b x x' → T (le x' c) → T (le x c)
+le-shrunk k q b x x' c u v pv C X t =
+    let s = X .grid .sign in
+    let n = X .grid .count in
+    let w = u * 2 ^ q in
+    let small = at x n (X .grid .value) in
+    let large = at (scale k x) (n * 2 ^ k) (scale-val k x s n (2 ^ q) (X .grid .value)) in
+    subst T (sym small)
+    (Le→test s (n * v) false w
+    (le-less s (n * v) (n * 2 ^ k * v) w (mul-le-mul-right v (le-mul-of-pos-right n (pow-pos k)))
+    (test→Le s (n * 2 ^ k * v) false w (subst T (ap (λ (z : Float). le z c) (X .is) ∙ large) t))))
+  where
+    at : (y : Float) (n : ℕ) → HasValue y (X .grid .sign) n (2 ^ q) → le y c ≡ (below (X .grid .sign) (n * v) false (u * 2 ^ q) || level (X .grid .sign) (n * v) false (u * 2 ^ q))
+    at y n Y =
+        le-at y c (X .grid .sign) false (n * v) (u * 2 ^ q) (2 ^ q * v) (mul-pos (pow-pos q) pv)
+        (rescale y (X .grid .sign) n (2 ^ q) (n * v) (2 ^ q * v) (pow-pos q) (mul-assoc n v (2 ^ q) ∙ ap (λ (z : ℕ). n * z) (mul-comm v (2 ^ q))) Y)
+        (rescale c false u v (u * 2 ^ q) (2 ^ q * v) pv (mul-assoc u (2 ^ q) v) C)
 
 -- ---- one of two, by a test that is the same
 pub twin-cond : (k q b : ℕ) (t t' : Bool) (x x' y y' : Float) → t' ≡ t → Twin k q b x x' → Twin k q b y y' → Twin k q b (cond t x y) (cond t' x' y')

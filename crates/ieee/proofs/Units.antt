@@ -38,7 +38,7 @@ units-fits f s q k a =
     (λ l. subst (λ (x : Float). T (fits f x)) (sym (units-odd f s q k l)) (odd-fits f (suc (prec f)) s q k (lt-of-le-of-lt a (pow-lt (le-refl (suc (prec f))))) a l))
     (λ g. subst (λ (x : Float). T (fits f x)) (sym (units-inf f s q k g)) (inf-fits f s))
 
-pub units-same : (f : Format) (s : Bool) (q k q' k' : ℕ) → q ≤ 2 ^ prec f → q' ≤ 2 ^ prec f → q * 2 ^ k ≡ q' * 2 ^ k' → units f s q k ≡ units f s q' k'
+units-same : (f : Format) (s : Bool) (q k q' k' : ℕ) → q ≤ 2 ^ prec f → q' ≤ 2 ^ prec f → q * 2 ^ k ≡ q' * 2 ^ k' → units f s q k ≡ units f s q' k'
 units-same f s q k q' k' a a' e =
     by-overflow f (q * 2 ^ k) (units f s q k ≡ units f s q' k')
     (λ l. value-unique f (units f s q k) (units f s q' k') s (q' * 2 ^ k') (2 ^ low f) (pow-pos (low f)) (units-fits f s q k a) (units-fits f s q' k' a')

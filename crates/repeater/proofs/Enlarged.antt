@@ -3,13 +3,13 @@
 use mathlib.Core.Path.{_≡_, refl, sym, ap, _∙_, subst}
 use mathlib.Core.Bool.{Bool, true, false, cond, false≢true}
 use Prim.Native.Nat.{ℕ, zero, suc, _+_, _-_, _*_, _/_, _%_, _^_, _≤_, _<_}
-use native.Mathlib.Nat.{le-trans, le-of-lt, lt-of-le-of-lt, add-comm, add-zero, zero-mul, one-mul, mul-one, mul-comm, mul-assoc, mul-pos, mul-lt-mul-of-pos-right, le-of-mul-le-mul-right, div-add-mod', mod-lt}
+use native.Mathlib.Nat.{le-trans, le-of-lt, lt-of-le-of-lt, add-zero, zero-mul, one-mul, mul-one, mul-comm, mul-assoc, mul-pos, mul-lt-mul-of-pos-right, le-of-mul-le-mul-right, div-add-mod', mod-lt}
 use native.Mathlib.Omega.{arith}
 use borrow.Author.Tests.{ltb-true, le-ltb}
 use lib.Dec.{T, lit≤, lit<}
 use lib.IntN.{ℤ, pos}
 use lib.Pow.{pow-pos}
-use lib.Ieee.{Float, nan, inf, fin, up, down, unlike, binary32, prec, fits, span, climb, size, odd, units, round, neg, sum, add, sub, mul, div, lt, isNan, ofInt, ofFields, ofBits}
+use lib.Ieee.{Float, nan, inf, fin, up, down, unlike, binary32, fits, span, climb, size, odd, units, round, neg, sum, add, sub, mul, div, lt, isNan, ofInt, ofFields, ofBits}
 use lib.Ieee.Exact.{HasValue, round-exact}
 use lib.Ieee.Fits.{sub-fits, down-pos}
 use Rattle.ieee.specs.Literal.{zero32, one32, hundred32, epsilon32}
@@ -18,14 +18,12 @@ use Rattle.ieee.specs.Sign.{abs}
 use Rattle.ieee.specs.Limit.{within, Bounded}
 use Rattle.ieee.specs.Choice.{max}
 use Rattle.ieee.specs.Fused.{fma}
-use Rattle.ieee.specs.Cut.{cut}
 use Rattle.ieee.specs.Grid.{On, Twin}
 use Rattle.ieee.proofs.Operations.{sub-is, add-at, fma-at}
 use Rattle.ieee.proofs.Value.{rescale, neg-val}
 use Rattle.ieee.proofs.Comparison.{lt-at}
-use Rattle.ieee.proofs.Round.{prec-pos}
-use Rattle.ieee.proofs.Grid.{weaken, absorbed, add-on-at, add-scale-at, big-on}
-use Rattle.ieee.proofs.Twins.{twin-weaken, twin-neg, twin-add, twin-mul, twin-mul-right}
+use Rattle.ieee.proofs.Grid.{weaken, big-on}
+use Rattle.ieee.proofs.Twins.{twin-weaken, twin-neg, twin-add, twin-add-absorb-right, twin-mul, twin-mul-right}
 use Rattle.ieee.proofs.Bounds.{within→bounded, add-bounded, round-bounded, reach-whole}
 use Rattle.count.specs.Count.{countDown, countUp}
 use Rattle.repeater.specs.declared.Matrix.{Matrix}
@@ -177,15 +175,7 @@ module _ {k : ℕ} (K : k ≤ 6) where
 
   -- a running sum: z is at most 2 ^ 43, and stays so
   absorb : {x x' z z' : Float} → Twin k 56 18 x x' → Twin k 56 43 z z' → Twin k 56 43 (x ⊕ z) (x' ⊕ z')
-  absorb {x} {x'} {z} {z'} X Z = record {
-    grid = add-on-at binary32 56 (lit≤ tt) 18 43 x z (X .grid) (Z .grid) 43 (lit≤ tt) few;
-    is = (λ i. add binary32 (X .is i) (Z .is i)) ∙ add-scale-at binary32 56 (lit≤ tt) 18 43 x z (X .grid) (Z .grid) 43 k (omega arith) few;
-  }
-    where
-      few : cut (prec binary32) (X .grid .count + Z .grid .count) ≤ 2 ^ (43 + 56)
-      few =
-          subst (λ (n : ℕ). cut (prec binary32) n ≤ 2 ^ (43 + 56)) (add-comm (Z .grid .count) (X .grid .count))
-          (absorbed (prec binary32) 56 43 18 (Z .grid .count) (X .grid .count) (prec-pos binary32) (lit< tt) (Z .grid .bound) (X .grid .bound))
+  absorb {x} {x'} {z} {z'} X Z = twin-add-absorb-right binary32 k 56 43 18 x x' z z' (lit≤ tt) (omega arith) (lit< tt) X Z
 
   module _ {u v : Float} (U : On 0 0 u) (W : On 0 0 v) where
     pair-twin : {b : ℕ} {x x' y y' : Float} → suc b + k ≤ 127 → Twin k 56 b x x' → Twin k 56 b y y' → Twin k 56 (suc b) (u ⊗ x ⊕ v ⊗ y) (u ⊗ x' ⊕ v ⊗ y')

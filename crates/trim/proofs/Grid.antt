@@ -1,14 +1,11 @@
 -- Of finite numbers every end of a range is a whole multiple of 2 ^ -37, and at most 1. Assumes nothing.
-use mathlib.Core.Path.{sym, ap, _∙_}
-use Prim.Native.Nat.{ℕ, _+_, _*_, _^_, _≤_, zero-le}
-use native.Mathlib.Nat.{le-refl, le-trans, le-of-eq, zero-lt-suc, mul-one, mul-right-comm, mul-le-mul-right, le-of-mul-le-mul-right}
+use Prim.Native.Nat.{ℕ, _*_, _^_, _≤_, zero-le}
+use native.Mathlib.Nat.{le-refl, le-trans, le-of-eq, zero-lt-suc, mul-one}
 use mathlib.Core.Bool.{Bool, true, false, cond}
 use lib.Dec.{T, lit<, lit≤}
-use lib.Pow.{pow-add}
 use lib.Count.{trailingZeros}
 use lib.Ieee.{Float, nan, inf, fin, binary32, odd, div, lt, le, ofFields, ofBits, up, down}
 use lib.Ieee.Fits.{down-pos}
-use lib.Ieee.Exact.{HasValue}
 use lib.Ieee.Scale.{finite}
 use Rattle.ieee.specs.Literal.{zero32, one32, hundred32}
 use Rattle.ieee.specs.Operators.{_⊖_, _⊗_}
@@ -20,7 +17,7 @@ use Rattle.ieee.proofs.Cut.{cut-le-pow}
 use Rattle.ieee.proofs.Round.{round-on}
 use Rattle.ieee.proofs.Grid.{weaken, on→On, sub-on, mul-on}
 use Rattle.ieee.proofs.Whole.{near-mono}
-use Rattle.ieee.proofs.Bounds.{zero-bounded, bounded-number, on-bounded, clamp-bounded, reach-whole, add-bounded, mul-bounded}
+use Rattle.ieee.proofs.Bounds.{zero-bounded, bounded-number, on-bounded, clamp-bounded, reach-whole, add-bounded, mul-bounded, tighten}
 use Rattle.command.specs.Enlarged.{AllOn}
 use Rattle.trim.specs.declared.TrimStyle.{TrimStyle}
 use Rattle.trim.specs.declared.Ranges.the-variants.{Nothing, One, Two}
@@ -65,17 +62,6 @@ snapped-on x X =
     mul-on binary32 0 37 (lit≤ tt) 15 0 (roundAway binary32 u) trimStep n step-on (lit≤ tt)
 
 -- ---- the clamp stays on the grid, and brings the bound down
-tighten : (q b c : ℕ) (x : Float) → On q b x → Bounded (2 ^ c) x → On q c x
-tighten q b c x X B = record { sign = X .sign; count = X .count; value = X .value; bound = go x (X .sign) (X .count) (X .value) B }
-  where
-    go : (x : Float) (s : Bool) (n : ℕ) → HasValue x s n (2 ^ q) → Bounded (2 ^ c) x → n ≤ 2 ^ (c + q)
-    go nan s n v B = absurd v
-    go (inf t) s n v B = absurd v
-    go (fin t m e) s n v B =
-        le-of-mul-le-mul-right
-        (le-trans (le-of-eq (sym (v .1))) (le-trans (mul-le-mul-right (2 ^ q) B) (le-of-eq (mul-right-comm (2 ^ c) (down e) (2 ^ q) ∙ ap (λ (z : ℕ). z * down e) (sym (pow-add 2 c q))))))
-        (down-pos e)
-
 either-on : (q b : ℕ) (c : Bool) (x y : Float) → On q b x → On q b y → On q b (cond c x y)
 either-on q b true x y X Y = X
 either-on q b false x y X Y = Y
