@@ -1,24 +1,10 @@
 //! Times drawing vertex lists, through the C interface, against the Rust's own function over its stand-ins.
 
+use crate::interface::jengafir_draw_path;
 use crate::timing::{compare, numbers_written};
 use crate::unit_numbers;
 use source::{BezierPath, BezierVertex};
 use std::hint::black_box;
-
-extern "C" {
-    fn jengafir_draw_path(
-        closed: u32,
-        vertices: *const f32,
-        vertices_len: usize,
-        count: usize,
-        codes: *mut u8,
-        codes_len: usize,
-        numbers: *mut f32,
-        numbers_len: usize,
-        codes_written: *mut usize,
-        numbers_written: *mut usize,
-    ) -> u32;
-}
 
 const VERTICES: usize = 1_024;
 /// So many lists that no processor remembers which segments are lines.

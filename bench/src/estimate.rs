@@ -1,10 +1,7 @@
 //! Times the tray estimate, through the C interface. Rust has no such function.
 
+use crate::interface::jengafir_tray_estimate;
 use crate::timing::alone;
-
-extern "C" {
-    fn jengafir_tray_estimate(count: usize, codes_needed: *mut usize, numbers_needed: *mut usize) -> u32;
-}
 
 const MOST_VERTICES: usize = 1_024;
 

@@ -1,17 +1,11 @@
 //! Times the float functions, through the C interface, against those of std.
 
+use crate::interface::{
+    jengafir_abs, jengafir_ceil, jengafir_floor, jengafir_hypot,
+    jengafir_mul_add, jengafir_rem_euclid_360, jengafir_round,
+};
 use crate::timing::compare;
 use crate::unit_numbers;
-
-extern "C" {
-    fn jengafir_mul_add(a: f32, b: f32, c: f32) -> f32;
-    fn jengafir_hypot(x: f32, y: f32) -> f32;
-    fn jengafir_floor(x: f32) -> f32;
-    fn jengafir_ceil(x: f32) -> f32;
-    fn jengafir_round(x: f32) -> f32;
-    fn jengafir_abs(x: f32) -> f32;
-    fn jengafir_rem_euclid_360(x: f32) -> f32;
-}
 
 const INPUTS: usize = 1 << 16;
 

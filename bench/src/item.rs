@@ -1,24 +1,10 @@
 //! Times drawing rectangles, through the C interface, against the Rust's own function over its stand-ins.
 
+use crate::interface::jengafir_draw_item;
 use crate::timing::{compare, numbers_written};
 use crate::unit_numbers;
 use source::ShapeItem;
 use std::hint::black_box;
-
-extern "C" {
-    fn jengafir_draw_item(
-        row: *const u32,
-        row_len: usize,
-        items: *const f32,
-        items_len: usize,
-        codes: *mut u8,
-        codes_len: usize,
-        numbers: *mut f32,
-        numbers_len: usize,
-        codes_written: *mut usize,
-        numbers_written: *mut usize,
-    ) -> u32;
-}
 
 pub const RC: u32 = 2;
 const RECTANGLES: usize = 1_024;

@@ -1,28 +1,10 @@
 //! Times the length of command lists, through the C interface, against the Rust's own function over its stand-ins,
 //! and finding a command, for which Rust has no function.
 
+use crate::interface::{jengafir_command, jengafir_length};
 use crate::timing::{alone, compare, Unit};
 use crate::unit_numbers;
 use source::Path;
-
-extern "C" {
-    fn jengafir_length(
-        codes: *const u8,
-        codes_len: usize,
-        numbers: *const f32,
-        numbers_len: usize,
-        length: *mut f32,
-    ) -> u32;
-    fn jengafir_command(
-        codes: *const u8,
-        codes_len: usize,
-        numbers: *const f32,
-        numbers_len: usize,
-        k: usize,
-        start: *mut usize,
-        count: *mut usize,
-    ) -> u32;
-}
 
 const COMMANDS: usize = 1_024;
 const LISTS: usize = 16;

@@ -4,6 +4,9 @@
 mod draw;
 mod estimate;
 mod float;
+#[allow(dead_code)]
+#[path = "../../oracle/src/interface.rs"]
+mod interface;
 #[cfg(drawing)]
 mod item;
 #[cfg(drawing)]

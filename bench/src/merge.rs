@@ -1,26 +1,11 @@
 //! Times merges, through the C interface, against the Rust's own function over its stand-ins.
 
+use crate::interface::jengafir_merge;
 use crate::item::{rectangle, RC};
 use crate::timing::{compare, numbers_written};
 use crate::unit_numbers;
 use source::{BezierPath, BezierVertex, ShapeItem};
 use std::hint::black_box;
-
-extern "C" {
-    fn jengafir_merge(
-        rows: *const u32,
-        rows_len: usize,
-        row_count: usize,
-        items: *const f32,
-        items_len: usize,
-        codes: *mut u8,
-        codes_len: usize,
-        numbers: *mut f32,
-        numbers_len: usize,
-        codes_written: *mut usize,
-        numbers_written: *mut usize,
-    ) -> u32;
-}
 
 const SH: u32 = 1;
 const MM: u32 = 13;

@@ -1,28 +1,11 @@
 //! Times repeaters, through the C interface, against the Rust's own functions over their stand-ins.
 
+use crate::interface::{jengafir_copy_order, jengafir_copy_transform};
 use crate::timing::compare;
 use crate::trim::bits;
 use crate::unit_numbers;
 use source::RepeaterStyle;
 use std::hint::black_box;
-
-extern "C" {
-    fn jengafir_copy_order(
-        repeater: *const f32,
-        mode: u8,
-        order: *mut u32,
-        order_len: usize,
-        order_count: *mut usize,
-    ) -> u32;
-    fn jengafir_copy_transform(
-        repeater: *const f32,
-        mode: u8,
-        copy: usize,
-        matrix: *mut f32,
-        matrix_len: usize,
-        matrix_count: *mut usize,
-    ) -> u32;
-}
 
 const COPIES: usize = 4_096;
 const COPY: usize = 4_000;

@@ -1,33 +1,10 @@
 //! Times trims, through the C interface, against the Rust's own functions over their stand-ins.
 
+use crate::interface::{jengafir_trim_lengths, jengafir_trim_ranges};
 use crate::length::{lists, A_COMMAND, KINDS};
 use crate::timing::compare;
 use crate::unit_numbers;
 use source::{Path, TrimStyle};
-
-extern "C" {
-    fn jengafir_trim_ranges(
-        start: f32,
-        end: f32,
-        offset: f32,
-        ranges: *mut f32,
-        range_count: *mut usize,
-        whole: *mut u32,
-    ) -> u32;
-    fn jengafir_trim_lengths(
-        start: f32,
-        end: f32,
-        offset: f32,
-        mode: u8,
-        codes: *const u8,
-        codes_len: usize,
-        numbers: *const f32,
-        numbers_len: usize,
-        cuts: *mut f32,
-        range_count: *mut usize,
-        whole: *mut u32,
-    ) -> u32;
-}
 
 const TRIMS: usize = 1 << 14;
 

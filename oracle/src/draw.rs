@@ -1,37 +1,11 @@
 //! Compares the drawing calls: the Rust's own functions, under document 01's refusals, against ours.
 
+use crate::interface::{jengafir_draw_item, jengafir_draw_path};
 use crate::random::Random;
 use crate::report::{Outcomes, Report};
 use crate::sample::{bits, filled, line, Case, OLD_NUMBER};
 use crate::shapes::{any_item, any_path, edges, Input, MOST_VERTICES, RC, SH};
 use source::{BezierPath, BezierVertex, Path, ShapeItem};
-
-extern "C" {
-    fn jengafir_draw_path(
-        closed: u32,
-        vertices: *const f32,
-        vertices_len: usize,
-        count: usize,
-        codes: *mut u8,
-        codes_len: usize,
-        numbers: *mut f32,
-        numbers_len: usize,
-        codes_written: *mut usize,
-        numbers_written: *mut usize,
-    ) -> u32;
-    fn jengafir_draw_item(
-        row: *const u32,
-        row_len: usize,
-        items: *const f32,
-        items_len: usize,
-        codes: *mut u8,
-        codes_len: usize,
-        numbers: *mut f32,
-        numbers_len: usize,
-        codes_written: *mut usize,
-        numbers_written: *mut usize,
-    ) -> u32;
-}
 
 const LIMIT: f32 = 1_048_576.0;
 

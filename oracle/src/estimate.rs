@@ -1,13 +1,10 @@
 //! Compares the room that is told for a drawing with document 01's rule, and with what the Rust draws.
 
 use crate::draw::{answer, check};
+use crate::interface::jengafir_tray_estimate;
 use crate::random::Random;
 use crate::report::{Outcomes, Report};
 use crate::shapes::{any_item, any_path, Input, MOST_VERTICES, SH};
-
-extern "C" {
-    fn jengafir_tray_estimate(count: usize, codes_needed: *mut usize, numbers_needed: *mut usize) -> u32;
-}
 
 /// The number of the refusal, or 0, and the counts of codes and numbers.
 type Estimate = (u32, [usize; 2]);

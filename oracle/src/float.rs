@@ -1,19 +1,13 @@
 //! Compares the float functions: Rust's own, and an exact root in whole numbers, against ours.
 
+use crate::interface::{
+    jengafir_abs, jengafir_ceil, jengafir_floor, jengafir_hypot,
+    jengafir_mul_add, jengafir_rem_euclid_360, jengafir_round,
+};
 use crate::random::{Random, EDGES};
 use crate::report::Report;
 use crate::root::{exact_hypot, isqrt};
 use crate::sample::{bits, line, Case};
-
-extern "C" {
-    fn jengafir_mul_add(a: f32, b: f32, c: f32) -> f32;
-    fn jengafir_hypot(x: f32, y: f32) -> f32;
-    fn jengafir_floor(x: f32) -> f32;
-    fn jengafir_ceil(x: f32) -> f32;
-    fn jengafir_round(x: f32) -> f32;
-    fn jengafir_abs(x: f32) -> f32;
-    fn jengafir_rem_euclid_360(x: f32) -> f32;
-}
 
 pub fn compare(random: &mut Random, count: usize, report: &mut Report) {
     compare_edges(report);

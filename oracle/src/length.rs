@@ -2,30 +2,12 @@
 //! ours.
 
 use crate::draw::{check, shown_list};
+use crate::interface::{jengafir_command, jengafir_length};
 use crate::lists::{any_list, longest, size, LIMIT, MOST_COMMANDS};
 use crate::random::Random;
 use crate::report::{Outcomes, Report};
 use crate::sample::{bits, line, Case};
 use source::Path;
-
-extern "C" {
-    fn jengafir_length(
-        codes: *const u8,
-        codes_len: usize,
-        numbers: *const f32,
-        numbers_len: usize,
-        length: *mut f32,
-    ) -> u32;
-    fn jengafir_command(
-        codes: *const u8,
-        codes_len: usize,
-        numbers: *const f32,
-        numbers_len: usize,
-        k: usize,
-        start: *mut usize,
-        count: *mut usize,
-    ) -> u32;
-}
 
 pub fn compare(random: &mut Random, count: usize, report: &mut Report) {
     let mut lengths: Outcomes = [0; 13];

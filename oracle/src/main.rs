@@ -5,6 +5,8 @@ mod draw;
 #[cfg(drawing)]
 mod estimate;
 mod float;
+#[allow(dead_code)]
+mod interface;
 #[cfg(drawing)]
 mod length;
 #[cfg(drawing)]

@@ -1,31 +1,16 @@
 //! Compares merges: the Rust's own functions, under document 01's refusals, against ours.
 
-use crate::draw::{check, drawn_case, lengths, rectangle, shown_difference, shown_list, source_numbers, vertex_list};
 use crate::draw::Outcome;
+use crate::draw::{check, drawn_case, lengths, rectangle, shown_difference, shown_list, source_numbers, vertex_list};
+use crate::interface::jengafir_merge;
 use crate::random::Random;
 use crate::report::{Outcomes, Report};
-use crate::rows::{altered, any_list, short_list, List, Row, Stock, EL, GR, MM, MOST_DEPTH, MOST_ROWS, OTHER};
 use crate::rows::{SHORT_GIVEN, SHORT_LENGTH};
+use crate::rows::{altered, any_list, short_list, List, Row, Stock, EL, GR, MM, MOST_DEPTH, MOST_ROWS, OTHER};
 use crate::sample::Case;
 use crate::shapes::{MOST_VERTICES, RC, SH};
 use source::{Path, ShapeItem};
 use std::rc::Rc;
-
-extern "C" {
-    fn jengafir_merge(
-        rows: *const u32,
-        rows_len: usize,
-        row_count: usize,
-        items: *const f32,
-        items_len: usize,
-        codes: *mut u8,
-        codes_len: usize,
-        numbers: *mut f32,
-        numbers_len: usize,
-        codes_written: *mut usize,
-        numbers_written: *mut usize,
-    ) -> u32;
-}
 
 /// So many lists are made of one stock of numbers.
 const LISTS_OF_A_STOCK: usize = 256;

@@ -1,28 +1,11 @@
 //! Compares repeaters: the Rust's own functions, under document 01's refusals, against ours.
 
 use crate::draw::check;
+use crate::interface::{jengafir_copy_order, jengafir_copy_transform};
 use crate::random::Random;
 use crate::report::{Outcomes, Report};
 use crate::sample::{bits, filled, line, Case, OLD_NUMBER};
 use source::RepeaterStyle;
-
-extern "C" {
-    fn jengafir_copy_order(
-        repeater: *const f32,
-        mode: u8,
-        order: *mut u32,
-        order_len: usize,
-        order_count: *mut usize,
-    ) -> u32;
-    fn jengafir_copy_transform(
-        repeater: *const f32,
-        mode: u8,
-        copy: usize,
-        matrix: *mut f32,
-        matrix_len: usize,
-        matrix_count: *mut usize,
-    ) -> u32;
-}
 
 const MOST: f32 = 4096.0;
 const LIMIT: f32 = 1_048_576.0;

@@ -1,36 +1,13 @@
 //! Compares trims: the Rust's own functions, under document 01's refusals, against ours.
 
 use crate::draw::check;
+use crate::interface::{jengafir_trim_lengths, jengafir_trim_ranges};
 use crate::length::{judged, list_line, short_list, shown};
 use crate::lists::any_list;
 use crate::random::Random;
 use crate::report::{Outcomes, Report};
 use crate::sample::{bits, filled, line, Case, OLD_NUMBER};
 use source::{Path, TrimStyle};
-
-extern "C" {
-    fn jengafir_trim_ranges(
-        start: f32,
-        end: f32,
-        offset: f32,
-        ranges: *mut f32,
-        range_count: *mut usize,
-        whole: *mut u32,
-    ) -> u32;
-    fn jengafir_trim_lengths(
-        start: f32,
-        end: f32,
-        offset: f32,
-        mode: u8,
-        codes: *const u8,
-        codes_len: usize,
-        numbers: *const f32,
-        numbers_len: usize,
-        cuts: *mut f32,
-        range_count: *mut usize,
-        whole: *mut u32,
-    ) -> u32;
-}
 
 /// So many ranges for each list that is trimmed.
 const RANGES: usize = 4;
