@@ -31,7 +31,6 @@ fn unit_numbers() -> impl FnMut() -> f32 {
 }
 
 fn main() {
-    timing::heading();
     float::run();
     estimate::run();
     #[cfg(drawing)]

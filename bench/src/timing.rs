@@ -1,4 +1,4 @@
-//! Times functions over many inputs, and prints a line for each call.
+//! Times functions over many inputs, and prints a line for each call, as bench/table.py reads it.
 
 use std::hint::black_box;
 use std::time::Instant;
@@ -19,19 +19,11 @@ fn time<I>(inputs: &[I], f: &mut impl FnMut(&I) -> u32) -> (f64, u32) {
     (start.elapsed().as_nanos() as f64, sum)
 }
 
-pub fn heading() {
-    println!("{:24}{:>9}{:>9}{:>8}  ns per", "", "ours", "Rust", "ratio");
-}
-
-/// Prints the best times of ours and of theirs over all inputs; a dash where Rust has no such function.
+/// Prints a call, what its times are for, and the best times of ours and of theirs in ns; a dash where Rust has no such
+/// function.
 fn line<I>(call: &str, unit: Unit, inputs: &[I], ours: f64, theirs: Option<f64>) {
-    let figure = |time: f64| {
-        let each = time / (unit.1 * inputs.len()) as f64;
-        format!("{each:.*}", if each < 100.0 { 2 } else { 0 })
-    };
-    let dash = || "-".to_string();
-    let ratio = theirs.map_or_else(dash, |theirs| format!("{:.2}", ours / theirs));
-    println!("{call:24}{:>9}{:>9}{ratio:>8}  {}", figure(ours), theirs.map_or_else(dash, figure), unit.0);
+    let figure = |time: f64| format!("{:.3}", time / (unit.1 * inputs.len()) as f64);
+    println!("{call}\t{}\t{}\t{}", unit.0, figure(ours), theirs.map_or_else(|| "-".to_string(), figure));
 }
 
 /// Times ours and theirs in turn, and says so where their results are not the same.
@@ -52,7 +44,7 @@ pub fn compare<I>(
     }
     line(call, unit, inputs, best[0], Some(best[1]));
     if !same {
-        println!("    the results of {call} differ");
+        eprintln!("bench: the results of {call} differ");
     }
 }
 
