@@ -42,13 +42,15 @@ module _ (start control end : Point) where
   unfolding quadPoint chords
   quad-start = record { bound = zero-le; so-far = refl; last = refl }
 
+  -- the point of the next step, as the code has it
+  pub quad-next : (n : ℕ) (next : Point) → next ≡ evalQuad start control end (div binary32 (ofInt binary32 (pos (n + 1))) (ofBits binary32 0x41c0_0000)) → next ≡ quadPoint start control end (suc n)
+  unfolding quadPoint stepOf
+  quad-next n next e = e ∙ ap₂ (λ (k : ℕ) (m : Float). evalQuad start control end (div binary32 (ofInt binary32 (pos k)) m)) (add-one n) (sym quad-steps)
+
   pub quad-more : (n : ℕ) (length d : Float) (previous next : Point) → Walked (quadPoint start control end) 24 n length previous → n < 24
       → next ≡ evalQuad start control end (div binary32 (ofInt binary32 (pos (n + 1))) (ofBits binary32 0x41c0_0000)) → d ≡ distance previous next
       → Walked (quadPoint start control end) 24 (n + 1) (length ⊕ d) next
-  unfolding quadPoint stepOf
-  quad-more n length d previous next w h e f =
-      walked-more (quadPoint start control end) 24 n length previous w d next h
-      (e ∙ ap₂ (λ (k : ℕ) (m : Float). evalQuad start control end (div binary32 (ofInt binary32 (pos k)) m)) (add-one n) (sym quad-steps)) f
+  quad-more n length d previous next w h e f = walked-more (quadPoint start control end) 24 n length previous w d next h (quad-next n next e) f
 
   pub quad-all : (n : ℕ) (length : Float) (previous : Point) → Walked (quadPoint start control end) 24 n length previous → 24 ≤ n → length ≡ quadLength start control end
   unfolding quadLengthAfter

@@ -156,13 +156,7 @@ pub fn mul_add_exact(a: f32, b: f32, c: f32) -> f32
 pub fn mul_add(a: f32, b: f32, c: f32) -> f32
     ensures { λ r. ⌜ r ≡ fma binary32 a b c ⌝ }
 {
-    if a != a {
-        return mul_add_exact(a, b, c);
-    }
-    if b != b {
-        return mul_add_exact(a, b, c);
-    }
-    if c != c {
+    if a != a || b != b || c != c {
         return mul_add_exact(a, b, c);
     }
     let w = (a as f64) * (b as f64) + (c as f64);
@@ -172,10 +166,7 @@ pub fn mul_add(a: f32, b: f32, c: f32) -> f32
     let t = f64::to_bits(w);
     let rest = t % 0x8000_0000_0000_0000;
     let x = rest / 0x10_0000_0000_0000;
-    if x < 898 {
-        return mul_add_exact(a, b, c);
-    }
-    if x > 1150 {
+    if x < 898 || x > 1150 {
         return mul_add_exact(a, b, c);
     }
     if t % 0x2000_0000 == 0x1000_0000 {

@@ -70,7 +70,7 @@ fn quad_to(pen: Pen, control: Point, next: Point) -> Pen
     let last = pen.point;
     match last {
         Place::Nowhere => arrive(pen, next, pen.length),
-        Place::At(p) => arrive(pen, next, pen.length + curve::quad_length(p, control, next)),
+        Place::At(p) => arrive(pen, next, pen.length + arc::quad_length(p, control, next)),
     }
 }
 
@@ -84,7 +84,7 @@ fn cubic_to(pen: Pen, control1: Point, control2: Point, next: Point) -> Pen
         Place::At(p) => arrive(
             pen,
             next,
-            pen.length + curve::cubic_length(p, control1, control2, next),
+            pen.length + arc::cubic_length(p, control1, control2, next),
         ),
     }
 }

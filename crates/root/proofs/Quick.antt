@@ -1,7 +1,7 @@
 -- A candidate that passes the test is the root: the sum of the squares lies strictly between the squares of the midpoints beside it. Assumes nothing.
 use mathlib.Core.Path.{_≡_, sym, ap, _∙_, subst}
 use mathlib.Core.Logic.{inl, inr}
-use Prim.Native.Nat.{ℕ, _+_, _-_, _*_, _/_, _%_, _^_, _≤_, _<_}
+use Prim.Native.Nat.{ℕ, _+_, _-_, _*_, _/_, _%_, _^_, _<_}
 use native.Mathlib.Nat.{eq-zero-or-pos, mul-comm, mul-assoc, lt-of-mul-lt-mul-right}
 use native.Mathlib.Omega.{arith}
 use mathlib.Core.Bool.{Bool, true, false}
@@ -21,6 +21,7 @@ use Rattle.ieee.proofs.Order.{between-finite, round-lt}
 use Rattle.ieee.proofs.Hypot.{hypot-units}
 use Rattle.ieee.proofs.Pattern.{read-value, read-finite, write}
 use Rattle.ieee.proofs.Wide.{value-64, product-exact}
+use Rattle.root.specs.Candidate.{Candidate, Sure, singleOf}
 use Rattle.root.proofs.Midpoints.{root-between, root-power}
 
 -- ---- the square of a finite number of binary32 is exact
@@ -70,7 +71,7 @@ reads b m k B F K M =
     same = mul-assoc m (2 ^ k) (2 ^ 1074) ∙ ap (λ (z : ℕ). m * z) powers ∙ sym (mul-assoc m (2 ^ 28 * 2 ^ (k + 896)) (2 ^ 150)) ∙ ap (λ (z : ℕ). z * 2 ^ 150) (sym (mul-assoc m (2 ^ 28) (2 ^ (k + 896))))
 
 -- ---- p is the candidate: it has the field k + 897 and the digits (q - 2 ^ 23) * 2 ^ 29
-module _ (x y : Float) (p : ℕ) (F : fits binary32 x ≡ true) (G : fits binary32 y ≡ true) (c : (898 * 2 ^ 52 ≤ p) × (p < 1150 * 2 ^ 52) × (p % 2 ^ 29 ≡ 0)) where
+module _ (x y : Float) (p : ℕ) (F : fits binary32 x ≡ true) (G : fits binary32 y ≡ true) (c : Candidate p) where
   abbrev n : Float
   n = add binary64 (mul binary64 x x) (mul binary64 y y)
 
@@ -86,7 +87,13 @@ module _ (x y : Float) (p : ℕ) (F : fits binary32 x ≡ true) (G : fits binary
   abbrev q : ℕ
   q = 2 ^ 23 + p % 2 ^ 52 / 2 ^ 29
 
-  module _ (above : lt (mul binary64 s s) n ≡ true) (below : lt n (mul binary64 t t) ≡ true) where
+  module _ (sure : Sure n p) where
+    above : lt (mul binary64 s s) n ≡ true
+    above = sure .0
+
+    below : lt n (mul binary64 t t) ≡ true
+    below = sure .1
+
     n-finite : finite n ≡ true
     n-finite = between-finite (mul binary64 s s) n (mul binary64 t t) (subst T (sym above) tt) (subst T (sym below) tt)
 
@@ -134,7 +141,7 @@ module _ (x y : Float) (p : ℕ) (F : fits binary32 x ≡ true) (G : fits binary
         (under ((2 ^ 24 + 1) * 2 ^ (j + 1)) (reads (p + 2 ^ 28) (2 ^ 24 + 1) (j + 1) (omega arith) (omega arith) (omega arith) (omega arith)))
         ∙ (λ i. units binary32 false (one i) (next i))
 
-    pub quick-is : ofBits binary32 (p / 2 ^ 29 - 0x1_c000_0000) ≡ hypotOf binary32 x y
+    pub quick-is : singleOf p ≡ hypotOf binary32 x y
     quick-is =
         let is : p / 2 ^ 29 - 0x1_c000_0000 ≡ 0 + (k * 2 ^ 23 + q) = omega arith in
         ap (ofBits binary32) is

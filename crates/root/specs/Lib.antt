@@ -1,1 +1,2 @@
--- The contracts of `root` cite the definitions of `ieee`.
+-- What the contracts of `root` cite beside the definitions of `ieee`.
+pub mod Candidate

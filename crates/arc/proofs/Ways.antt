@@ -1,0 +1,147 @@
+-- What each way out of a function of this crate owes, as the code meets it. Assumes nothing.
+use mathlib.Core.Path.{_≡_, refl, sym, ap, ap₂, _∙_, subst}
+use mathlib.Core.Bool.{Bool, true, false, true≢false}
+use mathlib.Core.List.{List, [], _∷_}
+use Prim.Native.Nat.{ℕ, suc, _+_, _-_, _*_, _^_, _≤_, _<_}
+use native.Mathlib.Numerals.{add-one}
+use native.Mathlib.Omega.{arith}
+use mir.Val.{Fits}
+use mir.Syntax.{w16, w64}
+use lib.IntN.{pos}
+use lib.Dec.{T}
+use lib.Ieee.{Float, nan, binary32, fits, div, ofInt, ofBits}
+use lib.Ieee.Exact.{HasValue}
+use lib.ListN.{length, getD, set}
+use Rattle.ieee.specs.Limit.{within, Bounded}
+use Rattle.ieee.proofs.Bounds.{within→bounded}
+use Rattle.curve.specs.declared.Point.{Point}
+use Rattle.curve.specs.Curve.{evalQuad, quadPoint, cubicAt, evalCubic, cubicPoint, stepOf, chords, quadLengthAfter, quadLength, cubicLengthAfter, cubicLength}
+use Rattle.curve.proofs.Chords.{quad-next}
+use Rattle.curve.proofs.Rising.{Inside, quad-inside, cubic-inside}
+use Rattle.polyline.specs.Polyline.{pointAt, FiniteTo}
+use Rattle.polyline.proofs.Callers.{xs-finite, ys-finite, chords-agree}
+use Rattle.flatten.specs.Level.{Coordinates, AllNear}
+use Rattle.flatten.proofs.Near.{along-x, along-y}
+use Rattle.arc.proofs.Filled.{Filled, filled-first, filled-more}
+use Rattle.arc.proofs.End.{end-at}
+
+-- ---- is_inside
+limit : HasValue (ofBits binary32 0x4a80_0000) false (2 ^ 22) 1
+unfolding ofBits
+limit = (refl, refl)
+
+pub inside-both : (p : Point) (a b : Bool) → a ≡ within (ofBits binary32 0x4a80_0000) (p .x) → a ≡ true → b ≡ within (ofBits binary32 0x4a80_0000) (p .y) → b ≡ true → Inside (2 ^ 22) p
+inside-both p a b e h f k = record {
+  x-bounded = within→bounded (2 ^ 22) (ofBits binary32 0x4a80_0000) (p .x) limit (sym e ∙ h);
+  y-bounded = within→bounded (2 ^ 22) (ofBits binary32 0x4a80_0000) (p .y) limit (sym f ∙ k);
+}
+
+pub inside-not : (p : Point) → false ≡ true → Inside (2 ^ 22) p
+inside-not p e = absurd (true≢false (sym e))
+
+-- ---- quad_length
+pub passed : (p : Point) (r : Bool) → (r ≡ true → Inside (2 ^ 22) p) → r ≡ true → Inside (2 ^ 22) p
+passed p r f h = f h
+
+-- ---- the loops
+pub fewer : (m n : ℕ) → n < m → m - (n + 1) < m - n
+fewer m n h = omega arith
+
+-- ---- inside_quad
+module _ (start control end : Point) where
+  pub quad-first : (xs ys : List Float) → length xs ≡ 33 → length ys ≡ 33 → pointAt xs ys 0 ≡ start → Filled (quadPoint start control end) 0 xs ys
+  unfolding quadPoint
+  quad-first xs ys X Y e = filled-first (quadPoint start control end) xs ys X Y e
+
+  pub quad-more : (n : ℕ) (xs ys : List Float) (p : Point) → n < 24 → Filled (quadPoint start control end) n xs ys
+      → p ≡ evalQuad start control end (div binary32 (ofInt binary32 (pos (n + 1))) (ofBits binary32 0x41c0_0000)) → Filled (quadPoint start control end) (n + 1) (set xs (n + 1) (p .x)) (set ys (n + 1) (p .y))
+  quad-more n xs ys p h F e =
+      filled-more (quadPoint start control end) n (n + 1) xs ys (p .x) (p .y) refl (omega arith) F (quad-next start control end n p e ∙ ap (quadPoint start control end) (sym (add-one n)))
+
+  module _ (n : ℕ) (xs ys : List Float) (S : Inside (2 ^ 22) start) (C : Inside (2 ^ 22) control) (E : Inside (2 ^ 22) end) (F : Filled (quadPoint start control end) n xs ys) (h : 24 ≤ n) where
+    quad-within : (k : ℕ) → k ≤ 24 → Inside (2 ^ 29) (quadPoint start control end k)
+    quad-within k l = quad-inside 22 (omega arith) start control end S C E k l
+
+    held : (k : ℕ) → k ≤ 24 → pointAt xs ys k ≡ quadPoint start control end k
+    held k l = F .same k (omega arith)
+
+    pub quad-xs : FiniteTo 24 xs
+    quad-xs = xs-finite (2 ^ 29) 24 xs ys (quadPoint start control end) held quad-within
+
+    pub quad-ys : FiniteTo 24 ys
+    quad-ys = ys-finite (2 ^ 29) 24 xs ys (quadPoint start control end) held quad-within
+
+    pub quad-is : (r : Float) → r ≡ chords (pointAt xs ys) 24 → r ≡ quadLength start control end
+    unfolding quadLengthAfter
+    quad-is r e = e ∙ chords-agree (pointAt xs ys) (quadPoint start control end) 24 held
+
+-- ---- level_cubic
+module _ (start control1 control2 end : Point) where
+  pub cubic-first : (xs ys : List Float) → length xs ≡ 33 → length ys ≡ 33 → pointAt xs ys 0 ≡ start → Filled (cubicPoint start control1 control2 end) 0 xs ys
+  unfolding cubicPoint
+  cubic-first xs ys X Y e = filled-first (cubicPoint start control1 control2 end) xs ys X Y e
+
+  -- the point of a step, by its coordinates
+  cubic-next : (n : ℕ) (x y : Float) → x ≡ cubicAt (start .x) (control1 .x) (control2 .x) (end .x) (stepOf 32 (suc n)) → y ≡ cubicAt (start .y) (control1 .y) (control2 .y) (end .y) (stepOf 32 (suc n))
+      → _≡_ {A = Point} (record { x = x; y = y }) (cubicPoint start control1 control2 end (suc n))
+  unfolding cubicPoint evalCubic
+  cubic-next n x y e f = ap₂ (λ (a b : Float). record { x = a; y = b }) e f
+
+  pub cubic-more : (n : ℕ) (xs ys : List Float) (x y : Float) → n < 31 → Filled (cubicPoint start control1 control2 end) n xs ys
+      → x ≡ cubicAt (start .x) (control1 .x) (control2 .x) (end .x) (stepOf 32 (n + 1)) → y ≡ cubicAt (start .y) (control1 .y) (control2 .y) (end .y) (stepOf 32 (n + 1))
+      → Filled (cubicPoint start control1 control2 end) (n + 1) (set xs (n + 1) x) (set ys (n + 1) y)
+  cubic-more n xs ys x y h F e f =
+      let up = add-one n in
+      filled-more (cubicPoint start control1 control2 end) n (n + 1) xs ys x y refl (omega arith) F
+      (cubic-next n x y (e ∙ ap (λ (k : ℕ). cubicAt (start .x) (control1 .x) (control2 .x) (end .x) (stepOf 32 k)) up) (f ∙ ap (λ (k : ℕ). cubicAt (start .y) (control1 .y) (control2 .y) (end .y) (stepOf 32 k)) up)
+      ∙ ap (cubicPoint start control1 control2 end) (sym up))
+
+  module _ (n : ℕ) (xs ys : List Float) (X : Coordinates (start .x) (control1 .x) (control2 .x) (end .x)) (Y : Coordinates (start .y) (control1 .y) (control2 .y) (end .y))
+      (fx : fits binary32 (end .x) ≡ true) (fy : fits binary32 (end .y) ≡ true) (S : Inside (2 ^ 22) start) (C : Inside (2 ^ 22) control1) (D : Inside (2 ^ 22) control2) (E : Inside (2 ^ 22) end)
+      (F : Filled (cubicPoint start control1 control2 end) n xs ys) (low : n ≤ 31) (high : 31 ≤ n) where
+    abbrev xs' : List Float
+    xs' = set xs 32 (end .x)
+
+    abbrev ys' : List Float
+    ys' = set ys 32 (end .y)
+
+    whole : Filled (cubicPoint start control1 control2 end) 32 xs' ys'
+    whole =
+        filled-more (cubicPoint start control1 control2 end) n 32 xs ys (end .x) (end .y) (omega arith) (omega arith) F
+        (cubic-next 31 (end .x) (end .y)
+        (sym (end-at (start .x) (control1 .x) (control2 .x) (end .x) X (subst T (sym fx) tt)))
+        (sym (end-at (start .y) (control1 .y) (control2 .y) (end .y) Y (subst T (sym fy) tt))))
+
+    cubic-within : (k : ℕ) → k ≤ 32 → Inside (2 ^ 29) (cubicPoint start control1 control2 end k)
+    cubic-within k l = cubic-inside 22 (omega arith) start control1 control2 end S C D E k l
+
+    pub cubic-xs : FiniteTo 32 xs'
+    cubic-xs = xs-finite (2 ^ 29) 32 xs' ys' (cubicPoint start control1 control2 end) (whole .same) cubic-within
+
+    pub cubic-ys : FiniteTo 32 ys'
+    cubic-ys = ys-finite (2 ^ 29) 32 xs' ys' (cubicPoint start control1 control2 end) (whole .same) cubic-within
+
+    pub cubic-is : (r : Float) → r ≡ chords (pointAt xs' ys') 32 → r ≡ cubicLength start control1 control2 end
+    unfolding cubicLengthAfter
+    cubic-is r e = e ∙ chords-agree (pointAt xs' ys') (cubicPoint start control1 control2 end) 32 (whole .same)
+
+-- ---- cubic_length
+module _ (start control1 control2 end : Point) (r : Bool) (level : r ≡ true → AllNear (start .x ∷ start .y ∷ control1 .x ∷ control1 .y ∷ control2 .x ∷ control2 .y ∷ end .x ∷ end .y ∷ [])) (h : r ≡ true) where
+  near : (k : ℕ) → k < 8 → Bounded (2 ^ 22) (getD (start .x ∷ start .y ∷ control1 .x ∷ control1 .y ∷ control2 .x ∷ control2 .y ∷ end .x ∷ end .y ∷ []) k nan)
+  near k l = level h .near k l .bounded
+
+  pub level-x : Coordinates (start .x) (control1 .x) (control2 .x) (end .x)
+  level-x = along-x (start .x) (start .y) (control1 .x) (control1 .y) (control2 .x) (control2 .y) (end .x) (end .y) r level h
+
+  pub level-y : Coordinates (start .y) (control1 .y) (control2 .y) (end .y)
+  level-y = along-y (start .x) (start .y) (control1 .x) (control1 .y) (control2 .x) (control2 .y) (end .x) (end .y) r level h
+
+  pub level-inside : Inside (2 ^ 22) start × Inside (2 ^ 22) control1 × Inside (2 ^ 22) control2 × Inside (2 ^ 22) end
+  level-inside = (
+    record { x-bounded = near 0 (omega arith); y-bounded = near 1 (omega arith) },
+    record { x-bounded = near 2 (omega arith); y-bounded = near 3 (omega arith) },
+    record { x-bounded = near 4 (omega arith); y-bounded = near 5 (omega arith) },
+    record { x-bounded = near 6 (omega arith); y-bounded = near 7 (omega arith) },
+  )
+
+pub ruleset ways = (inside-both, inside-not, passed, fewer, quad-first, quad-more, quad-xs, quad-ys, quad-is, cubic-first, cubic-more, cubic-xs, cubic-ys, cubic-is, level-x, level-y, level-inside)

@@ -1,0 +1,38 @@
+-- `arc::quad_length` meets its contract. Assumes nothing.
+use Rattle.arc.proofs.Ways.{ways}
+use borrow.Author.Needs.{needs}
+use Rattle.arc.proofs.quad_length.Statement.{statement}
+use Rattle.arc.proofs.quad_length.Tie as tie
+
+is-inside-requires : tie.Need-is-inside-requires
+is-inside-requires c κs = search needs
+
+is-inside-requires-2 : tie.Need-is-inside-requires-2
+is-inside-requires-2 c κs = search needs
+
+is-inside-requires-3 : tie.Need-is-inside-requires-3
+is-inside-requires-3 c κs = search needs
+
+inside-quad-requires : tie.Need-inside-quad-requires
+inside-quad-requires c κs = (search (needs, ways), search (needs, ways), search (needs, ways))
+
+returns : tie.Need-returns
+returns c = search needs
+
+quad-length-requires : tie.Need-quad-length-requires
+quad-length-requires c κs = search needs
+
+returns-2 : tie.Need-returns-2
+returns-2 c = search needs
+
+pub quad-length-spec : {M : Type 1} → statement M
+quad-length-spec =
+    tie.close
+    (tie.spec
+    is-inside-requires
+    is-inside-requires-2
+    is-inside-requires-3
+    inside-quad-requires
+    returns
+    quad-length-requires
+    returns-2)

@@ -1,0 +1,6 @@
+-- What the proof of `narrow` cites.
+pub mod Field
+pub mod Steps
+pub mod Result
+pub mod Ways
+mod Cases

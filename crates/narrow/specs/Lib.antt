@@ -1,0 +1,2 @@
+-- A number kept to 24 digits.
+pub mod Kept

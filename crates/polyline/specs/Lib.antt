@@ -1,0 +1,2 @@
+-- Points in two lists of coordinates.
+pub mod Polyline
