@@ -1,5 +1,7 @@
 -- What the proofs of `repeater` cite.
 pub mod Ways
+mod Zeros
+mod Upright
 pub mod Enlarged
 pub mod Single
 mod Cases

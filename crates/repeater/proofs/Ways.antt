@@ -7,8 +7,9 @@ use native.Mathlib.Numerals.{add-one}
 use native.Mathlib.Omega.{arith}
 use lib.Dec.{lit≤, lit<}
 use lib.IntN.{pos}
-use lib.Ieee.{Float, nan, inf, fin, binary32, ofBits, ofInt, round, div, neg, lt, le}
+use lib.Ieee.{Float, nan, inf, fin, binary32, ofBits, ofInt, round, div, neg, lt, le, eq}
 use lib.Ieee.Exact.{HasValue}
+use lib.Ieee.Scale.{finite}
 use Rattle.ieee.specs.Literal.{zero32, one32, hundred32, epsilon32}
 use Rattle.ieee.specs.Operators.{_⊕_, _⊖_, _⊗_}
 use borrow.Author.Tests.{le-leb, lt-leb}
@@ -22,6 +23,8 @@ use Rattle.repeater.specs.declared.Matrix.{Matrix}
 use Rattle.repeater.specs.declared.RepeaterStyle.{RepeaterStyle}
 use Rattle.repeater.specs.Matrix.{identity, concat, preTranslate, preScale}
 use Rattle.repeater.specs.Repeater.{leastScale, mostOffset, copyCount, stepScale, direction, stepShift, stepMatrix, stepTransform, steps, iterationTransform, copyTransform, opacityOf, copyOpacity}
+use Rattle.repeater.specs.Upright.{isUpright, uprightConcat, uprightSteps}
+use Rattle.repeater.proofs.Upright.{upright-steps}
 
 -- ---- products
 pub concat-way : (m n : Matrix) → record {
@@ -98,6 +101,56 @@ module _ (step : Matrix) where
   steps-end i n m m-is h l = let e : i ≡ n = omega arith in m-is ∙ ap (λ (k : ℕ). steps k step) e
 
 pub ruleset repeating = (steps-none, steps-next, steps-end)
+
+-- ---- steps that neither turn nor mirror
+module _ (m : Matrix) where
+  pub not-upright-b : eq (m .b) zero32 ≡ false → false ≡ isUpright m
+  unfolding isUpright
+  not-upright-b h = rw h
+
+  pub not-upright-c : eq (m .b) zero32 ≡ true → eq (m .c) zero32 ≡ false → false ≡ isUpright m
+  unfolding isUpright
+  not-upright-c h k = rw (h, k)
+
+  pub not-upright-a : eq (m .b) zero32 ≡ true → eq (m .c) zero32 ≡ true → lt zero32 (m .a) ≡ false → false ≡ isUpright m
+  unfolding isUpright
+  not-upright-a h k l = rw (h, k, l)
+
+  pub upright-d : eq (m .b) zero32 ≡ true → eq (m .c) zero32 ≡ true → lt zero32 (m .a) ≡ true → lt zero32 (m .d) ≡ isUpright m
+  unfolding isUpright
+  upright-d h k l = rw (h, k, l)
+
+pub upright-concat-way : (m n : Matrix) → record {
+  a = m .a ⊗ n .a;
+  b = zero32;
+  c = zero32;
+  d = m .d ⊗ n .d;
+  e = m .a ⊗ n .e ⊕ zero32 ⊗ n .f ⊕ m .e;
+  f = zero32 ⊗ n .e ⊕ m .d ⊗ n .f ⊕ m .f;
+} ≡ uprightConcat m n
+unfolding uprightConcat
+upright-concat-way m n = refl
+
+module _ (step : Matrix) where
+  pub upright-none : (m : Matrix) → m ≡ identity → m ≡ uprightSteps 0 step
+  unfolding uprightSteps
+  upright-none m e = e
+
+  pub upright-next : (i i' : ℕ) (m m' : Matrix) → m ≡ uprightSteps i step → m' ≡ uprightConcat m step → i' ≡ i + 1 → m' ≡ uprightSteps i' step
+  unfolding uprightSteps
+  upright-next i i' m m' m-is m'-is e = m'-is ∙ ap (λ (x : Matrix). uprightConcat x step) m-is ∙ ap (λ (k : ℕ). uprightSteps k step) (sym (e ∙ add-one i))
+
+  pub upright-end : (i n : ℕ) (m : Matrix) → m ≡ uprightSteps i step → n ≤ i → i ≤ n → m ≡ uprightSteps n step
+  upright-end i n m m-is h l = let e : i ≡ n = omega arith in m-is ∙ ap (λ (k : ℕ). uprightSteps k step) e
+
+  pub upright-all : (n : ℕ) (m : Matrix) (t p q : Bool) → t ≡ isUpright step → t ≡ true → m ≡ uprightSteps n step → p ≡ finite (m .a) → p ≡ true → q ≡ finite (m .d) → q ≡ true → m ≡ steps n step
+  upright-all n m t p q t-is t-true m-is p-is p-true q-is q-true =
+      m-is
+      ∙ upright-steps n step (sym t-is ∙ t-true)
+      (ap (λ (k : Matrix). finite (k .a)) (sym m-is) ∙ sym p-is ∙ p-true)
+      (ap (λ (k : Matrix). finite (k .d)) (sym m-is) ∙ sym q-is ∙ q-true)
+
+pub ruleset quickly = (not-upright-b, not-upright-c, not-upright-a, upright-d, upright-concat-way, upright-none, upright-next, upright-end, upright-all)
 
 -- ---- iteration_transform
 abs-abs : (x : Float) → abs (abs x) ≡ abs x

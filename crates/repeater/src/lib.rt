@@ -6,6 +6,7 @@ ghost use Rattle.ieee.specs.Limit.{within};
 ghost use Rattle.count.specs.Count.{countLimit};
 ghost use Rattle.repeater.specs.Matrix as matrix;
 ghost use Rattle.repeater.specs.Repeater as spec;
+ghost use Rattle.repeater.specs.Upright as upright;
 
 // Two numbers, one an axis.
 pub struct Pair {
@@ -139,7 +140,7 @@ fn step_transform(repeater: RepeaterStyle, percent: f32, inverse: bool) -> Matri
 }
 
 // So many steps, one after another.
-fn steps(n: u64, step: Matrix) -> Matrix
+fn plain_steps(n: u64, step: Matrix) -> Matrix
     ensures { λ m. ⌜ m ≡ spec.steps n step ⌝ }
 {
     let mut transform = identity();
@@ -149,6 +150,62 @@ fn steps(n: u64, step: Matrix) -> Matrix
         i += 1;
     }
     transform
+}
+
+// Whether a matrix neither turns nor mirrors: b and c are zeros, and a and d are above zero.
+fn is_upright(m: Matrix) -> bool
+    ensures { λ r. ⌜ r ≡ upright.isUpright m ⌝ }
+{
+    if m.b == 0.0 {
+        if m.c == 0.0 {
+            if m.a > 0.0 {
+                return m.d > 0.0;
+            }
+        }
+    }
+    false
+}
+
+// The product of two matrices that neither turn nor mirror: n acts first.
+fn upright_concat(m: Matrix, n: Matrix) -> Matrix
+    ensures { λ r. ⌜ r ≡ upright.uprightConcat m n ⌝ }
+{
+    Matrix {
+        a: m.a * n.a,
+        b: 0.0,
+        c: 0.0,
+        d: m.d * n.d,
+        e: m.a * n.e + 0.0 * n.f + m.e,
+        f: 0.0 * n.e + m.d * n.f + m.f,
+    }
+}
+
+// So many steps that neither turn nor mirror. They are right where the scale is finite at the end.
+fn upright_steps(n: u64, step: Matrix) -> Matrix
+    ensures { λ m. ⌜ m ≡ upright.uprightSteps n step ⌝ }
+{
+    let mut transform = identity();
+    let mut i: u64 = 0;
+    while i < n {
+        transform = upright_concat(transform, step);
+        i += 1;
+    }
+    transform
+}
+
+// So many steps, by the quick way where it is right.
+fn steps(n: u64, step: Matrix) -> Matrix
+    ensures { λ m. ⌜ m ≡ spec.steps n step ⌝ }
+{
+    if is_upright(step) {
+        let quick = upright_steps(n, step);
+        if float::is_finite(quick.a) {
+            if float::is_finite(quick.d) {
+                return quick;
+            }
+        }
+    }
+    plain_steps(n, step)
 }
 
 // So many steps and a part of one. At most 2^-23 in absolute value is none.

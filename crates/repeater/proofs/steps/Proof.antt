@@ -1,49 +1,38 @@
 -- `repeater::steps` meets its contract. Assumes nothing.
 use borrow.Author.Needs.{needs}
-use mathlib.Core.Path.{_≡_}
-use Prim.Native.Nat.{_-_, _≤_}
-use Rattle.repeater.specs.Repeater.{steps}
-use Rattle.repeater.proofs.Ways.{repeating}
+use Rattle.repeater.proofs.Ways.{quickly}
 use Rattle.repeater.proofs.steps.Statement.{statement}
 use Rattle.repeater.proofs.steps.Tie as tie
 
-abbrev Inv-loop : tie.InvT-loop
-Inv-loop n step transform₀ i₀ transform i = (transform ≡ steps i step) × (i ≤ n)
+is-upright-requires : tie.Need-is-upright-requires
+is-upright-requires c κs = search needs
 
-abbrev μ-loop : tie.MeasureT-loop
-μ-loop n step transform₀ i₀ transform i = n - i
+upright-steps-requires : tie.Need-upright-steps-requires
+upright-steps-requires c κs = search needs
 
-identity-requires : tie.Need-identity-requires Inv-loop μ-loop
-identity-requires c κs = search (needs, repeating)
+is-finite-requires : tie.Need-is-finite-requires
+is-finite-requires c κs = search needs
 
-loop-holds : tie.Need-loop-holds Inv-loop μ-loop
-loop-holds c = search (needs, repeating)
+is-finite-requires-2 : tie.Need-is-finite-requires-2
+is-finite-requires-2 c κs = search needs
 
-concat-requires : tie.Need-concat-requires Inv-loop μ-loop
-concat-requires c κs = search (needs, repeating)
+returns : tie.Need-returns
+returns c = search (needs, quickly)
 
-add-i : tie.Need-add-i Inv-loop μ-loop
-add-i c = search (needs, repeating)
+plain-steps-requires : tie.Need-plain-steps-requires
+plain-steps-requires c κs = search needs
 
-loop-less : tie.Need-loop-less Inv-loop μ-loop
-loop-less c = search (needs, repeating)
-
-loop-again : tie.Need-loop-again Inv-loop μ-loop
-loop-again c = search (needs, repeating)
-
-returns : tie.Need-returns Inv-loop μ-loop
-returns c = search (needs, repeating)
+returns-2 : tie.Need-returns-2
+returns-2 c = search needs
 
 pub steps-spec : {M : Type 1} → statement M
 steps-spec =
     tie.close
     (tie.spec
-    Inv-loop
-    μ-loop
-    identity-requires
-    loop-holds
-    concat-requires
-    add-i
-    loop-less
-    loop-again
-    returns)
+    is-upright-requires
+    upright-steps-requires
+    is-finite-requires
+    is-finite-requires-2
+    returns
+    plain-steps-requires
+    returns-2)
