@@ -185,7 +185,7 @@ static void trim(const Bag *bag, const Path *ring, Fill *fill)
         fail("a trim has other ranges than cuts");
 }
 
-/* The coins grow smaller around their middle as the stack grows, and those below are paler. */
+/* The coins stand one above the other, and those below are paler. */
 static void stack(const Bag *bag, int size, Fill *fill)
 {
     const float factor = (float)size;
@@ -193,7 +193,7 @@ static void stack(const Bag *bag, int size, Fill *fill)
         (float)bag->coins / COINS_PER_COPY, 0,
         MIDDLE * factor, COIN_Y * factor,
         0, -4 * factor,
-        98, 98,
+        100, 100,
         0,
         0.5f, 1,
     };

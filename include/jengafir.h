@@ -14,7 +14,7 @@ extern "C" {
 enum jengafir_refusal {
     JENGAFIR_ACCEPTED = 0,          /* the answer is written */
     JENGAFIR_EMPTY = 1,             /* empty input: no vertices, or no item rows */
-    JENGAFIR_TOO_MANY = 2,          /* too many vertices, rows, levels, commands or copies */
+    JENGAFIR_TOO_MANY = 2,          /* too many vertices, rows, levels, commands or copies, or an offset over 4,096 */
     JENGAFIR_OUT_OF_RANGE = 3,      /* a number that is not finite, or over its limit */
     JENGAFIR_UNLISTED = 4,          /* a code, flag or mode that is not listed */
     JENGAFIR_UNSUPPORTED = 5,       /* an ellipse, a polystar, or a repeater that rotates */
@@ -54,10 +54,13 @@ enum jengafir_kind {
     JENGAFIR_OTHER = 14 /* any other item */
 };
 
-/* Of every call that draws: no pointer is null, and what is lent for writing overlaps nothing else that is lent.
-   On acceptance the commands stand at the start of both buffers, and the counts say how many codes and numbers
-   they are; places past the counts keep their content. On a refusal both counts are 0, and both buffers keep
-   their content. */
+/* Of every function: the calling thread rounds to nearest and does not flush subnormal numbers to zero. So a program
+   starts, unless it is built with -ffast-math or changes the mode by <fenv.h> or the like. */
+
+/* Of jengafir_draw_path, jengafir_draw_item and jengafir_merge: no pointer is null, and what is lent for writing
+   overlaps nothing else that is lent. On acceptance the commands stand at the start of both buffers, and the counts
+   say how many codes and numbers they are; places past the counts keep their content. On a refusal both counts are 0,
+   and both buffers keep their content. */
 
 /* Draws the path of `count` vertices, 1 to 1,024, open where `closed` is 0 and closed where it is 1.
    A vertex is six numbers: x, y, the tangent that comes in, x and y, and the tangent that goes out, x and y. Tangents
@@ -126,9 +129,10 @@ uint32_t jengafir_command(const uint8_t *codes, size_t codes_len, const float *n
 /* Of the two calls that trim: start and end are in per cent of the path's length, the offset is in degrees, and a
    turn is the whole length. They may be any finite numbers. No pointer is null, and places that are lent for writing
    overlap nothing else that is lent.
-   On acceptance `range_count` is 0 where nothing is visible, 1, or 2 where the visible part goes past the path's end;
-   `whole` is 1 where the one range is the whole path, and else 0; numbers stand at the start of the array, and places
-   past them keep their content. On a refusal `range_count` is 0, and `whole` and the array keep their content. */
+   On acceptance `range_count` is 0 where nothing is visible, 2 where the visible part runs over the path's end and on
+   from its start, and else 1; `whole` is 1 where the one range is the whole path, and else 0; numbers stand at the
+   start of the array, and places past them keep their content. On a refusal `range_count` is 0, and `whole` and the
+   array keep their content. */
 
 /* Puts the visible ranges of a trim down in `ranges`, as parts of the path's length: for each range its start and its
    end, which are from 0 to 1 with the start not beyond the end. A start may be -0. Two ranges are from a start to 1,

@@ -1,4 +1,4 @@
--- Each condition of the claim is needed: what the calls answer where one of them does not hold, by computing. Assumes nothing.
+-- What goes wrong without some of the claim's conditions, by computing. Assumes nothing.
 use Prim.Native.Nat.{ℕ}
 use mathlib.Core.Path.{_≡_, refl}
 use mathlib.Core.List.{[], _∷_}
@@ -34,7 +34,7 @@ twice-is-cubic : tangent two-13 ≡ drawn (Move zero32 zero32 ∷ Cubic two-13 z
 unfolding drawPath bezierSegment add sub ofBits le
 twice-is-cubic = refl
 
--- ---- at most 8,192, and no factor of 256: the limit is 1,048,576, which is 128 times 8,192, and 2,097,152 is over it
+-- ---- a bound, and no factor of 256: 64 times 32,768, or 256 times 8,192, is 2,097,152, which is over the limit of 1,048,576
 abbrev one-vertex : Float → Outcome
 one-vertex x = drawPath 0 (x ∷ zero32 ∷ zero32 ∷ zero32 ∷ zero32 ∷ zero32 ∷ []) 1
 

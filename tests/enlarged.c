@@ -1,0 +1,224 @@
+/* Calls every function of the C interface that the promise about sizes names on a drawing and on the same drawing
+   enlarged 2 to 64 times: results, counts, codes, ranges, orders and opacities are the same, and coordinates, lengths,
+   cut lengths and shifts are multiplied exactly, a zero keeping its sign. */
+#include "jengafir.h"
+
+#include <stdio.h>
+#include <string.h>
+
+#define COUNT(list) (sizeof(list) / sizeof(list)[0])
+
+#define MOST_CODES 64
+#define MOST_NUMBERS 256
+
+static int compared = 0;
+static int wrong = 0;
+
+static void expect(int same, const char *call, int factor)
+{
+    compared++;
+    if (!same) {
+        printf("%s: not the same enlarged %d times\n", call, factor);
+        wrong++;
+    }
+}
+
+/* Whether each number of `large` is the f32 of just that product. */
+static int multiplied(const float *small, const float *large, size_t count, int factor)
+{
+    for (size_t i = 0; i < count; i++) {
+        float product = small[i] * (float)factor;
+        if (memcmp(&product, &large[i], sizeof product) != 0)
+            return 0;
+    }
+    return 1;
+}
+
+static void enlarge(const float *small, float *large, size_t count, int factor)
+{
+    for (size_t i = 0; i < count; i++)
+        large[i] = small[i] * (float)factor;
+}
+
+typedef struct {
+    uint32_t result;
+    uint8_t codes[MOST_CODES];
+    float numbers[MOST_NUMBERS];
+    size_t code_count, number_count;
+} Drawing;
+
+static int same_drawing(const Drawing *small, const Drawing *large, int factor)
+{
+    return small->result == large->result && small->code_count == large->code_count &&
+           small->number_count == large->number_count && memcmp(small->codes, large->codes, small->code_count) == 0 &&
+           multiplied(small->numbers, large->numbers, small->number_count, factor);
+}
+
+/* Four vertices with tangents: zeros of both signs, the grid's smallest step, and its largest number. */
+static const float vertices[] = {
+    0,        -0.0f,     0,       0,      1.0f / 1024, 0,
+    8192,     -8192,     -12.5f,  3.75f,  0,           0,
+    -100.25f, 0.125f,    0,       0,      33,          -7.5f,
+    640,      480.0625f, -64,     1,      -0.0f,       0,
+};
+
+/* A rectangle, a round one, and the vertices as a path. */
+static const float items[] = {
+    -8.5f, 16, 1023.5f,        -77.25f, 0,
+    12,    34, 56.0f / 1024,   78,      5.5f,
+    0,     0,  8192,           0,       0,    0,
+    16,    0,  0,              0,       -3,   2,
+    0,     16, 1.0f / 1024,    -2,      0,    0,
+};
+
+static const uint32_t rows[] = {
+    JENGAFIR_RC, 0, 0, 0, 0,  0,
+    JENGAFIR_RC, 1, 0, 0, 99, 0,
+    JENGAFIR_RC, 0, 0, 0, 5,  0,
+    JENGAFIR_SH, 0, 0, 1, 10, 3,
+    JENGAFIR_MM, 0, 0, 1, 0,  0,
+    JENGAFIR_TM, 0, 0, 0, 0,  0,
+};
+
+static void draw_path(uint32_t closed, const float *numbers, Drawing *drawing)
+{
+    drawing->result = jengafir_draw_path(closed, numbers, COUNT(vertices), COUNT(vertices) / 6, drawing->codes,
+                                         MOST_CODES, drawing->numbers, MOST_NUMBERS, &drawing->code_count,
+                                         &drawing->number_count);
+}
+
+static void draw_item(const uint32_t *row, const float *numbers, Drawing *drawing)
+{
+    drawing->result = jengafir_draw_item(row, 6, numbers, COUNT(items), drawing->codes, MOST_CODES, drawing->numbers,
+                                         MOST_NUMBERS, &drawing->code_count, &drawing->number_count);
+}
+
+static void merge(size_t row_count, const float *numbers, Drawing *drawing)
+{
+    drawing->result = jengafir_merge(rows, COUNT(rows), row_count, numbers, COUNT(items), drawing->codes, MOST_CODES,
+                                     drawing->numbers, MOST_NUMBERS, &drawing->code_count, &drawing->number_count);
+}
+
+/* The calls that read a command list: the length, each command's numbers, and the cut lengths of some trims. */
+static void measure(const Drawing *small, const Drawing *large, int factor)
+{
+    static const float trims[][3] = {{0, 100, 0}, {25, 75, 0}, {0, 62.5f, -90}, {30, 30, 0}, {10.3f, 99.9f, 300.7f}};
+    float length = 0, large_length = 0;
+    uint32_t result = jengafir_length(small->codes, small->code_count, small->numbers, small->number_count, &length);
+    uint32_t large_result =
+        jengafir_length(large->codes, large->code_count, large->numbers, large->number_count, &large_length);
+    expect(result == JENGAFIR_ACCEPTED && large_result == result && multiplied(&length, &large_length, 1, factor),
+           "jengafir_length", factor);
+
+    for (size_t k = 0; k <= small->code_count; k++) {
+        size_t start, count, large_start, large_count;
+        result = jengafir_command(small->codes, small->code_count, small->numbers, small->number_count, k, &start,
+                                  &count);
+        large_result = jengafir_command(large->codes, large->code_count, large->numbers, large->number_count, k,
+                                        &large_start, &large_count);
+        expect(result == large_result && start == large_start && count == large_count &&
+                   multiplied(small->numbers + start, large->numbers + large_start, count, factor),
+               "jengafir_command", factor);
+    }
+
+    for (size_t i = 0; i < COUNT(trims); i++) {
+        const float *trim = trims[i];
+        float cuts[6] = {0}, large_cuts[6] = {0};
+        size_t ranges, large_ranges;
+        uint32_t whole = 9, large_whole = 9;
+        result = jengafir_trim_lengths(trim[0], trim[1], trim[2], 1, small->codes, small->code_count, small->numbers,
+                                       small->number_count, cuts, &ranges, &whole);
+        large_result = jengafir_trim_lengths(trim[0], trim[1], trim[2], 1, large->codes, large->code_count,
+                                             large->numbers, large->number_count, large_cuts, &large_ranges,
+                                             &large_whole);
+        expect(result == JENGAFIR_ACCEPTED && large_result == result && ranges == large_ranges &&
+                   whole == large_whole && multiplied(cuts, large_cuts, 6, factor),
+               "jengafir_trim_lengths", factor);
+    }
+}
+
+static void repeat(int factor)
+{
+    static const float offsets[] = {-1.5f, 0, 2};
+    for (size_t i = 0; i < COUNT(offsets); i++) {
+        float repeater[11] = {3.5f, offsets[i], 7, -9.5f, 10, 1.0f / 1024, 100, 100, 0, 1, 0.25f};
+        float larger[11];
+        uint32_t order[8], large_order[8];
+        size_t count, large_count;
+        memcpy(larger, repeater, sizeof larger);
+        enlarge(repeater + 2, larger + 2, 4, factor);
+        uint32_t result = jengafir_copy_order(repeater, 2, order, COUNT(order), &count);
+        uint32_t large_result = jengafir_copy_order(larger, 2, large_order, COUNT(order), &large_count);
+        expect(result == JENGAFIR_ACCEPTED && large_result == result && count == 4 && large_count == 4 &&
+                   memcmp(order, large_order, count * sizeof *order) == 0,
+               "jengafir_copy_order", factor);
+        for (size_t copy = 0; copy <= count; copy++) {
+            float matrix[7] = {0}, large_matrix[7] = {0};
+            size_t entries, large_entries;
+            result = jengafir_copy_transform(repeater, 2, copy, matrix, 7, &entries);
+            large_result = jengafir_copy_transform(larger, 2, copy, large_matrix, 7, &large_entries);
+            expect(result == large_result && result == (copy < count ? JENGAFIR_ACCEPTED : JENGAFIR_NO_SUCH_COPY) &&
+                       entries == large_entries && memcmp(matrix, large_matrix, 4 * sizeof *matrix) == 0 &&
+                       multiplied(matrix + 4, large_matrix + 4, 2, factor) && matrix[6] == large_matrix[6],
+                   "jengafir_copy_transform", factor);
+        }
+    }
+}
+
+static void compare(const char *call, Drawing *small, Drawing *large, int factor)
+{
+    expect(same_drawing(small, large, factor), call, factor);
+    if (small->result == JENGAFIR_ACCEPTED)
+        measure(small, large, factor);
+}
+
+static void test_factor(int factor)
+{
+    static Drawing small, large;
+    float larger_vertices[COUNT(vertices)], larger_items[COUNT(items)];
+    enlarge(vertices, larger_vertices, COUNT(vertices), factor);
+    enlarge(items, larger_items, COUNT(items), factor);
+    for (uint32_t closed = 0; closed <= 2; closed++) {
+        draw_path(closed, vertices, &small);
+        draw_path(closed, larger_vertices, &large);
+        compare("jengafir_draw_path", &small, &large, factor);
+    }
+    for (size_t row = 0; row < COUNT(rows) / 6; row++) {
+        draw_item(rows + 6 * row, items, &small);
+        draw_item(rows + 6 * row, larger_items, &large);
+        compare("jengafir_draw_item", &small, &large, factor);
+    }
+    for (size_t row_count = 0; row_count <= COUNT(rows) / 6; row_count++) {
+        merge(row_count, items, &small);
+        merge(row_count, larger_items, &large);
+        compare("jengafir_merge", &small, &large, factor);
+    }
+    repeat(factor);
+}
+
+/* A path of one step of the grid is long enough to be cut at every size; one that no grid has may become so. */
+static void test_too_short(void)
+{
+    static const uint8_t codes[] = {JENGAFIR_MOVE, JENGAFIR_LINE};
+    const float numbers[] = {0, 0, 0x1p-24f, 0}, larger[] = {0, 0, 0x1p-18f, 0};
+    float cuts[6];
+    size_t ranges;
+    uint32_t whole;
+    expect(jengafir_trim_lengths(0, 50, 0, 1, codes, 2, numbers, 4, cuts, &ranges, &whole) == JENGAFIR_TOO_SHORT,
+           "too short", 1);
+    expect(jengafir_trim_lengths(0, 50, 0, 1, codes, 2, larger, 4, cuts, &ranges, &whole) == JENGAFIR_ACCEPTED,
+           "no longer too short", 64);
+}
+
+int main(void)
+{
+    for (int factor = 2; factor <= 64; factor *= 2)
+        test_factor(factor);
+    test_too_short();
+    if (wrong != 0) {
+        printf("%d of %d wrong\n", wrong, compared);
+        return 1;
+    }
+    printf("ok %d\n", compared);
+    return 0;
+}
