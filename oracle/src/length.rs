@@ -66,7 +66,7 @@ pub fn judged(list: &Path) -> Result<(), u32> {
 const BEFORE: u32 = 0xffc0_1234;
 
 /// The number and the length's bits.
-fn length(list: &Path) -> [u32; 2] {
+pub fn length(list: &Path) -> [u32; 2] {
     let mut length = BEFORE;
     let place = (&mut length as *mut u32).cast();
     let (codes, numbers) = (&list.codes, &list.numbers);

@@ -51,7 +51,7 @@ fn number(random: &mut Random, kind: Kind) -> f32 {
 }
 
 /// x, or 0 where x is not finite or past the limit of command lists.
-fn accepted(x: f32) -> f32 {
+pub fn accepted(x: f32) -> f32 {
     if x.abs() <= LIMIT { x } else { 0.0 }
 }
 

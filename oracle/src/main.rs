@@ -1,6 +1,8 @@
 //! Compares the library with Rust's own functions on seeded random and edge inputs.
 
 #[cfg(drawing)]
+mod curves;
+#[cfg(drawing)]
 mod draw;
 #[cfg(drawing)]
 mod estimate;
@@ -44,6 +46,8 @@ const PARTS: &[Part] = &[
     merge::compare,
     #[cfg(drawing)]
     length::compare,
+    #[cfg(drawing)]
+    curves::compare,
     #[cfg(drawing)]
     trim::compare,
     #[cfg(drawing)]
