@@ -13,6 +13,9 @@ ghost use Rattle.cut.specs.Cuts.{partOf, cutsOf, cutNumbers, cutAll};
 ghost use Rattle.cut.specs.Calls.{isFiniteTrim, isTrimMode, trimRanges, trimMeasured, trimLengths};
 ghost use Rattle.cut.specs.Answers.{markOf};
 
+// f32::EPSILON, 2^-23.
+const EPSILON: f32 = 0.00000011920929;
+
 // What lies before, in and after a range.
 pub struct Cuts {
     pub before: f32,
@@ -70,7 +73,7 @@ fn trim_measured(trim: TrimStyle, measured: Measured) -> Trimmed
     match measured {
         Measured::Refused(refusal) => Trimmed::Refused(refusal),
         Measured::Length(total) => {
-            if total <= 0.00000011920929 {
+            if total <= EPSILON {
                 Trimmed::Refused(Refusal::TooShort)
             } else {
                 Trimmed::Cut(total, trim::normalized_trim_segments(trim))

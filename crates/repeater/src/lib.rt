@@ -8,6 +8,9 @@ ghost use Rattle.repeater.specs.Matrix as matrix;
 ghost use Rattle.repeater.specs.Repeater as spec;
 ghost use Rattle.repeater.specs.Upright as upright;
 
+// f32::EPSILON, 2^-23.
+const EPSILON: f32 = 0.00000011920929;
+
 // Two numbers, one an axis.
 pub struct Pair {
     pub x: f32,
@@ -213,7 +216,7 @@ fn iteration_transform(repeater: RepeaterStyle, iteration: f32) -> Matrix
     requires { ⌜ within countLimit iteration ≡ true ⌝ }
     ensures { λ r. ⌜ r ≡ spec.iterationTransform repeater iteration ⌝ }
 {
-    if float::is_within(iteration, 0.00000011920929) {
+    if float::is_within(iteration, EPSILON) {
         return identity();
     }
     let inverse = iteration < 0.0;
@@ -221,7 +224,7 @@ fn iteration_transform(repeater: RepeaterStyle, iteration: f32) -> Matrix
     let whole = count::count_down(magnitude);
     let fraction = magnitude - whole::from_whole(false, whole);
     let transform = steps(whole, step_transform(repeater, 1.0, inverse));
-    if fraction > 0.00000011920929 {
+    if fraction > EPSILON {
         concat(transform, step_transform(repeater, fraction, inverse))
     } else {
         transform

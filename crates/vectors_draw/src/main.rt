@@ -2,20 +2,9 @@
 // behind.
 // tools/draw_vectors.py makes the lines and says how they read.
 ghost use Prim.Native.Nat.{_<_};
-use command::Drawn;
 use command::Need;
 use libc::STDIN_FILENO;
 use libc::STDOUT_FILENO;
-
-// Writes the answer of a call, and what the buffers hold after it.
-fn print_drawn(drawn: Drawn, codes: &[u8], numbers: &[f32]) {
-    match drawn {
-        Drawn::Refused(refusal) => pattern_text::print_refusal(command::refusal_number(refusal)),
-        Drawn::Written(n, m) => pattern_text::print_written(n, m),
-    }
-    pattern_text::print_codes(codes);
-    pattern_text::print_numbers(numbers);
-}
 
 fn draw_path(line: &[u8], vertices: &[f32], codes: &mut [u8], numbers: &mut [f32]) {
     let count = pattern_text::size(pattern_text::field(line, 1));
@@ -26,14 +15,14 @@ fn draw_path(line: &[u8], vertices: &[f32], codes: &mut [u8], numbers: &mut [f32
         codes,
         numbers,
     );
-    print_drawn(drawn, codes, numbers);
+    pattern_text::print_drawn(drawn, codes, numbers);
 }
 
 // Draws a row of which the first entries are lent, so many as the line says.
 fn draw_row(line: &[u8], row: &[u32], items: &[f32], codes: &mut [u8], numbers: &mut [f32]) {
     let entries = pattern_text::at_most(pattern_text::field(line, 0), row.len());
     let drawn = draw::draw_item(&row[..entries], items, codes, numbers);
-    print_drawn(drawn, codes, numbers);
+    pattern_text::print_drawn(drawn, codes, numbers);
 }
 
 fn draw_item(line: &[u8], items: &[f32], codes: &mut [u8], numbers: &mut [f32]) {

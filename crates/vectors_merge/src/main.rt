@@ -1,19 +1,8 @@
 // Runs the vectors of merges: reads calls from standard input, one a line, and writes what each leaves behind.
 // tools/merge_vectors.py makes the lines and says how they read.
 ghost use Prim.Native.Nat.{_<_};
-use command::Drawn;
 use libc::STDIN_FILENO;
 use libc::STDOUT_FILENO;
-
-// Writes the answer of a call, and what the buffers hold after it.
-fn print_drawn(drawn: Drawn, codes: &[u8], numbers: &[f32]) {
-    match drawn {
-        Drawn::Refused(refusal) => pattern_text::print_refusal(command::refusal_number(refusal)),
-        Drawn::Written(n, m) => pattern_text::print_written(n, m),
-    }
-    pattern_text::print_codes(codes);
-    pattern_text::print_numbers(numbers);
-}
 
 // An entry of a row, which is written as one number.
 fn entry(row: u32, i: usize) -> u32 {
@@ -62,7 +51,7 @@ fn change_entry(rows: &mut [u32], line: &[u8]) {
 fn merge(line: &[u8], rows: &[u32], items: &[f32], codes: &mut [u8], numbers: &mut [f32]) {
     let count = pattern_text::size(pattern_text::field(line, 0));
     let drawn = join::draw_merge(rows, count, items, codes, numbers);
-    print_drawn(drawn, codes, numbers);
+    pattern_text::print_drawn(drawn, codes, numbers);
 }
 
 // Merges what a line says with the first places of two lists and of two buffers, so many as the line says.

@@ -18,16 +18,12 @@ fn repeater_at(line: &[u8], first: usize) -> RepeaterStyle
     )
 }
 
-fn wide(x: u32) -> u64 {
-    x as u64
-}
-
 // Writes the numbers of an order, with a blank before each.
 fn print_order(order: &[u32]) {
     let mut i = 0;
     while i < order.len() {
         io::write_all(STDOUT_FILENO, b" ");
-        io::print_hex(STDOUT_FILENO, wide(order[i]), 8);
+        io::print_hex(STDOUT_FILENO, pattern_text::wide(order[i]), 8);
         i += 1;
     }
 }
