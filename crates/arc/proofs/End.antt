@@ -1,24 +1,24 @@
--- At its last step a cubic is at its end: the other three weights are 0, and the end's is 1. Assumes nothing.
+-- At its last step a curve is at its end: the other weights are 0, and the end's is 1. Assumes nothing.
 use mathlib.Core.Path.{_≡_, refl, ap, _∙_, subst}
 use mathlib.Core.Logic.{inl, inr}
 use Prim.Native.Nat.{ℕ, _+_, _-_, _*_, _^_, _<_}
-use native.Mathlib.Nat.{zero-mul, mul-comm, mul-one, eq-zero-or-pos}
+use native.Mathlib.Nat.{zero-mul, eq-zero-or-pos}
 use native.Mathlib.Omega.{arith}
-use mathlib.Core.Bool.{Bool, true, false, _&&_, and-true, Bool·beq, cond}
+use mathlib.Core.Bool.{Bool, true, false}
 use lib.IntN.{pos}
-use lib.Dec.{T, ltb}
+use lib.Dec.{T}
 use lib.Pow.{pow-pos}
 use lib.Ieee.{Float, fin, Format, binary32, fits, unlike, round, sum, mul, sub, div, ofInt, ofBits}
 use lib.Ieee.Exact.{HasValue}
 use borrow.Author.Tests.{lt-ltb, le-ltb}
 use Rattle.ieee.specs.Literal.{one32}
-use Rattle.ieee.specs.Operators.{_⊖_, _⊗_}
+use Rattle.ieee.specs.Operators.{_⊗_}
 use Rattle.ieee.specs.Fused.{fma}
 use Rattle.ieee.proofs.Value.{value-unique}
 use Rattle.ieee.proofs.Round.{round-own}
 use Rattle.ieee.proofs.Operations.{mul-at, fma-at}
-use Rattle.curve.specs.Curve.{three32, squared, cubed, cubicAt, stepOf}
-use Rattle.flatten.specs.Level.{Level, Coordinates}
+use Rattle.curve.specs.Curve.{quadAt, cubicAt, stepOf}
+use Rattle.flatten.specs.Level.{Level, Coordinates, QuadCoordinates}
 
 -- ---- zeros
 abbrev zero-of : Bool → Float
@@ -95,6 +95,19 @@ module _ {q : ℕ} {x : Float} (X : Level q x) (F : T (fits binary32 x)) where
       single n = omega arith
 
 -- ---- the weights at the last step
+quad-last-is : (a b c : Float) → quadAt a b c (stepOf 24 24) ≡ fma binary32 one32 c (fma binary32 (zero-of false) a (zero-of false ⊗ b))
+unfolding quadAt stepOf sub mul div ofInt ofBits
+quad-last-is a b c = refl
+
+pub quad-end-at : (a b c : Float) → QuadCoordinates a b c → T (fits binary32 c) → quadAt a b c (stepOf 24 24) ≡ c
+quad-end-at a b c X F =
+    let one = none (X .control) in
+    let two = none-more (X .start) (one .0) in
+    quad-last-is a b c
+    ∙ ap (λ (z : Float). fma binary32 one32 c (fma binary32 (zero-of false) a z)) (one .1)
+    ∙ ap (fma binary32 one32 c) (two .1)
+    ∙ once (X .end) F (two .0)
+
 last-is : (a b c d : Float) → cubicAt a b c d (stepOf 32 32) ≡ fma binary32 one32 d (fma binary32 (zero-of false) c (fma binary32 (zero-of false) a (zero-of false ⊗ b)))
 unfolding cubicAt stepOf sub mul div ofInt ofBits
 last-is a b c d = refl

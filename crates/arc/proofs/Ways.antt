@@ -2,11 +2,10 @@
 use mathlib.Core.Path.{_≡_, refl, sym, ap, ap₂, _∙_, subst}
 use mathlib.Core.Bool.{Bool, true, false, true≢false}
 use mathlib.Core.List.{List, [], _∷_}
-use Prim.Native.Nat.{ℕ, suc, _+_, _-_, _*_, _^_, _≤_, _<_}
+use Prim.Native.Nat.{ℕ, zero, suc, _+_, _-_, _*_, _^_, _≤_, _<_}
+use native.Mathlib.Nat.{lt-irrefl}
 use native.Mathlib.Numerals.{add-one}
 use native.Mathlib.Omega.{arith}
-use mir.Val.{Fits}
-use mir.Syntax.{w16, w64}
 use lib.IntN.{pos}
 use lib.Dec.{T}
 use lib.Ieee.{Float, nan, binary32, fits, div, ofInt, ofBits}
@@ -15,15 +14,16 @@ use lib.ListN.{length, getD, set}
 use Rattle.ieee.specs.Limit.{within, Bounded}
 use Rattle.ieee.proofs.Bounds.{within→bounded}
 use Rattle.curve.specs.declared.Point.{Point}
-use Rattle.curve.specs.Curve.{evalQuad, quadPoint, cubicAt, evalCubic, cubicPoint, stepOf, chords, quadLengthAfter, quadLength, cubicLengthAfter, cubicLength}
+use Rattle.curve.specs.Curve.{quadAt, evalQuad, quadPoint, cubicAt, evalCubic, cubicPoint, stepOf, chords, quadLengthAfter, quadLength, cubicLengthAfter, cubicLength}
 use Rattle.curve.proofs.Chords.{quad-next}
 use Rattle.curve.proofs.Rising.{Inside, quad-inside, cubic-inside}
 use Rattle.polyline.specs.Polyline.{pointAt, FiniteTo}
 use Rattle.polyline.proofs.Callers.{xs-finite, ys-finite, chords-agree}
-use Rattle.flatten.specs.Level.{Coordinates, AllNear}
-use Rattle.flatten.proofs.Near.{along-x, along-y}
-use Rattle.arc.proofs.Filled.{Filled, filled-first, filled-more}
-use Rattle.arc.proofs.End.{end-at}
+use Rattle.flatten.specs.Level.{Coordinates, QuadCoordinates, AllNear}
+use Rattle.flatten.proofs.Near.{along-x, along-y, quad-along-x, quad-along-y}
+use Rattle.arc.specs.Filled.{Filled, Thirds}
+use Rattle.arc.proofs.Filled.{filled-first, filled-more, thirds-first, thirds-more, thirds-between, filled-third}
+use Rattle.arc.proofs.End.{quad-end-at, end-at}
 
 -- ---- is_inside
 limit : HasValue (ofBits binary32 0x4a80_0000) false (2 ^ 22) 1
@@ -47,6 +47,19 @@ passed p r f h = f h
 pub fewer : (m n : ℕ) → n < m → m - (n + 1) < m - n
 fewer m n h = omega arith
 
+-- ---- quad_point
+module _ (start control end : Point) where
+  pub quad-point : (n : ℕ) (p : Point) → 0 < n → p ≡ evalQuad start control end (div binary32 (ofInt binary32 (pos n)) (ofBits binary32 0x41c0_0000)) → p ≡ quadPoint start control end n
+  quad-point zero p h e = absurd (lt-irrefl 0 h)
+  quad-point (suc n) p h e = quad-next start control end n p (e ∙ ap (λ (k : ℕ). evalQuad start control end (div binary32 (ofInt binary32 (pos k)) (ofBits binary32 0x41c0_0000))) (sym (add-one n)))
+
+  -- by its coordinates
+  quad-point-at : (n : ℕ) (x y : Float) → 0 < n → x ≡ quadAt (start .x) (control .x) (end .x) (stepOf 24 n) → y ≡ quadAt (start .y) (control .y) (end .y) (stepOf 24 n)
+      → _≡_ {A = Point} (record { x = x; y = y }) (quadPoint start control end n)
+  unfolding quadPoint evalQuad
+  quad-point-at zero x y h e f = absurd (lt-irrefl 0 h)
+  quad-point-at (suc n) x y h e f = ap₂ (λ (a b : Float). record { x = a; y = b }) e f
+
 -- ---- inside_quad
 module _ (start control end : Point) where
   pub quad-first : (xs ys : List Float) → length xs ≡ 33 → length ys ≡ 33 → pointAt xs ys 0 ≡ start → Filled (quadPoint start control end) 0 xs ys
@@ -54,9 +67,8 @@ module _ (start control end : Point) where
   quad-first xs ys X Y e = filled-first (quadPoint start control end) xs ys X Y e
 
   pub quad-more : (n : ℕ) (xs ys : List Float) (p : Point) → n < 24 → Filled (quadPoint start control end) n xs ys
-      → p ≡ evalQuad start control end (div binary32 (ofInt binary32 (pos (n + 1))) (ofBits binary32 0x41c0_0000)) → Filled (quadPoint start control end) (n + 1) (set xs (n + 1) (p .x)) (set ys (n + 1) (p .y))
-  quad-more n xs ys p h F e =
-      filled-more (quadPoint start control end) n (n + 1) xs ys (p .x) (p .y) refl (omega arith) F (quad-next start control end n p e ∙ ap (quadPoint start control end) (sym (add-one n)))
+      → p ≡ quadPoint start control end (n + 1) → Filled (quadPoint start control end) (n + 1) (set xs (n + 1) (p .x)) (set ys (n + 1) (p .y))
+  quad-more n xs ys p h F e = filled-more (quadPoint start control end) n (n + 1) xs ys (p .x) (p .y) refl (omega arith) F e
 
   module _ (n : ℕ) (xs ys : List Float) (S : Inside (2 ^ 22) start) (C : Inside (2 ^ 22) control) (E : Inside (2 ^ 22) end) (F : Filled (quadPoint start control end) n xs ys) (h : 24 ≤ n) where
     quad-within : (k : ℕ) → k ≤ 24 → Inside (2 ^ 29) (quadPoint start control end k)
@@ -74,6 +86,35 @@ module _ (start control end : Point) where
     pub quad-is : (r : Float) → r ≡ chords (pointAt xs ys) 24 → r ≡ quadLength start control end
     unfolding quadLengthAfter
     quad-is r e = e ∙ chords-agree (pointAt xs ys) (quadPoint start control end) 24 held
+
+-- ---- write_eighths
+module _ (start control end : Point) (n : ℕ) (xs ys : List Float) (F : Thirds (quadPoint start control end) n xs ys) where
+  pub eighth-more : (x y : Float) → n < 7 → x ≡ quadAt (start .x) (control .x) (end .x) (stepOf 24 (3 * (n + 1))) → y ≡ quadAt (start .y) (control .y) (end .y) (stepOf 24 (3 * (n + 1)))
+      → Thirds (quadPoint start control end) (n + 1) (set xs (3 * (n + 1)) x) (set ys (3 * (n + 1)) y)
+  eighth-more x y h e f = thirds-more (quadPoint start control end) n (3 * (n + 1)) xs ys x y refl (omega arith) F (quad-point-at start control end (3 * (n + 1)) x y (omega arith) e f)
+
+  pub eighth-end : QuadCoordinates (start .x) (control .x) (end .x) → QuadCoordinates (start .y) (control .y) (end .y) → fits binary32 (end .x) ≡ true → fits binary32 (end .y) ≡ true → n ≤ 7 → 7 ≤ n
+      → Thirds (quadPoint start control end) 8 (set xs 24 (end .x)) (set ys 24 (end .y))
+  eighth-end X Y fx fy low high =
+      let all : n + 1 ≡ 8 = omega arith in
+      subst (λ (k : ℕ). Thirds (quadPoint start control end) k (set xs 24 (end .x)) (set ys 24 (end .y))) all
+      (thirds-more (quadPoint start control end) n 24 xs ys (end .x) (end .y) (omega arith) (omega arith) F
+      (quad-point-at start control end 24 (end .x) (end .y) (omega arith)
+      (sym (quad-end-at (start .x) (control .x) (end .x) X (subst T (sym fx) tt)))
+      (sym (quad-end-at (start .y) (control .y) (end .y) Y (subst T (sym fy) tt)))))
+
+-- ---- write_between
+module _ (point : ℕ → Point) (xs ys : List Float) where
+  pub between-first : Thirds point 8 xs ys → Filled point (3 * 0) xs ys
+  between-first F = filled-first point xs ys (F .xs-length) (F .ys-length) (F .same 0 (omega arith))
+
+  pub between-all : (g : ℕ) → Filled point (3 * g) xs ys → g ≤ 8 → 8 ≤ g → Filled point 24 xs ys
+  between-all g F low high = let all : 3 * g ≡ 24 = omega arith in subst (λ (n : ℕ). Filled point n xs ys) all F
+
+-- ---- level_quad
+pub level-first : (start control end : Point) (xs ys : List Float) → length xs ≡ 33 → length ys ≡ 33 → pointAt xs ys 0 ≡ start → Thirds (quadPoint start control end) 0 xs ys
+unfolding quadPoint
+level-first start control end xs ys X Y e = thirds-first (quadPoint start control end) xs ys X Y e
 
 -- ---- level_cubic
 module _ (start control1 control2 end : Point) where
@@ -126,7 +167,7 @@ module _ (start control1 control2 end : Point) where
     cubic-is r e = e ∙ chords-agree (pointAt xs' ys') (cubicPoint start control1 control2 end) 32 (whole .same)
 
 -- ---- cubic_length
-module _ (start control1 control2 end : Point) (r : Bool) (level : r ≡ true → AllNear (start .x ∷ start .y ∷ control1 .x ∷ control1 .y ∷ control2 .x ∷ control2 .y ∷ end .x ∷ end .y ∷ [])) (h : r ≡ true) where
+module _ (start control1 control2 end : Point) (r : Bool) (level : r ≡ true → AllNear 8 (start .x ∷ start .y ∷ control1 .x ∷ control1 .y ∷ control2 .x ∷ control2 .y ∷ end .x ∷ end .y ∷ [])) (h : r ≡ true) where
   near : (k : ℕ) → k < 8 → Bounded (2 ^ 22) (getD (start .x ∷ start .y ∷ control1 .x ∷ control1 .y ∷ control2 .x ∷ control2 .y ∷ end .x ∷ end .y ∷ []) k nan)
   near k l = level h .near k l .bounded
 
@@ -144,4 +185,22 @@ module _ (start control1 control2 end : Point) (r : Bool) (level : r ≡ true �
     record { x-bounded = near 6 (omega arith); y-bounded = near 7 (omega arith) },
   )
 
-pub ruleset ways = (inside-both, inside-not, passed, fewer, quad-first, quad-more, quad-xs, quad-ys, quad-is, cubic-first, cubic-more, cubic-xs, cubic-ys, cubic-is, level-x, level-y, level-inside)
+-- ---- quad_length
+module _ (start control end : Point) (r : Bool) (level : r ≡ true → AllNear 6 (start .x ∷ start .y ∷ control .x ∷ control .y ∷ end .x ∷ end .y ∷ [])) (h : r ≡ true) where
+  quad-near : (k : ℕ) → k < 6 → Bounded (2 ^ 22) (getD (start .x ∷ start .y ∷ control .x ∷ control .y ∷ end .x ∷ end .y ∷ []) k nan)
+  quad-near k l = level h .near k l .bounded
+
+  pub quad-level-x : QuadCoordinates (start .x) (control .x) (end .x)
+  quad-level-x = quad-along-x (start .x) (start .y) (control .x) (control .y) (end .x) (end .y) r level h
+
+  pub quad-level-y : QuadCoordinates (start .y) (control .y) (end .y)
+  quad-level-y = quad-along-y (start .x) (start .y) (control .x) (control .y) (end .x) (end .y) r level h
+
+  pub quad-level-inside : Inside (2 ^ 22) start × Inside (2 ^ 22) control × Inside (2 ^ 22) end
+  quad-level-inside = (
+    record { x-bounded = quad-near 0 (omega arith); y-bounded = quad-near 1 (omega arith) },
+    record { x-bounded = quad-near 2 (omega arith); y-bounded = quad-near 3 (omega arith) },
+    record { x-bounded = quad-near 4 (omega arith); y-bounded = quad-near 5 (omega arith) },
+  )
+
+pub ruleset ways = (inside-both, inside-not, passed, fewer, quad-point, quad-first, quad-more, quad-xs, quad-ys, quad-is, eighth-more, eighth-end, between-first, thirds-between, filled-third, between-all, level-first, quad-level-x, quad-level-y, quad-level-inside, cubic-first, cubic-more, cubic-xs, cubic-ys, cubic-is, level-x, level-y, level-inside)

@@ -29,7 +29,7 @@ module _ (point : ℕ → Point) (steps n : ℕ) (length : Float) (previous : Po
   walked-all h = w .so-far ∙ ap (chords point) (omega arith)
 
 -- the divisors as the code has them, 24.0 and 32.0
-quad-steps : ofInt binary32 (pos 24) ≡ ofBits binary32 0x41c0_0000
+pub quad-steps : ofInt binary32 (pos 24) ≡ ofBits binary32 0x41c0_0000
 unfolding ofInt round ofBits
 quad-steps = refl
 

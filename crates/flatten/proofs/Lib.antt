@@ -2,5 +2,6 @@
 pub mod Exact
 pub mod Chain
 pub mod Steps
+pub mod Eighths
 pub mod Near
 pub mod Ways

@@ -19,7 +19,7 @@ use Rattle.ieee.specs.Pattern.{bare, digitsOf, dropsOf}
 use Rattle.ieee.proofs.Value.{rescale}
 use Rattle.ieee.proofs.Bounds.{bounded-finite, within→bounded}
 use Rattle.ieee.proofs.Pattern.{read-value}
-use Rattle.flatten.specs.Level.{Level, Coordinates, Near, AllNear}
+use Rattle.flatten.specs.Level.{Level, Coordinates, QuadCoordinates, Near, AllNear}
 use Rattle.flatten.proofs.Exact.{finite-number}
 
 -- ---- +0
@@ -92,25 +92,26 @@ module _ (x : Float) (r : Bool) (is : r ≡ within (ofBits binary32 0x4a80_0000)
 pub not-near : (q : ℕ) (x : Float) → false ≡ true → Near q x
 not-near q x e = absurd (true≢false (sym e))
 
--- ---- as `is_level` meets them: each of the first i numbers is near
-pub record Passed (top : ℕ) (xs : List Float) (i : ℕ) : Type 0 where
-  pub bound : i ≤ 8
+-- ---- as `is_level` and `is_level_quad` meet them: each of the first i numbers of n is near
+pub record Passed (n top : ℕ) (xs : List Float) (i : ℕ) : Type 0 where
+  pub bound : i ≤ n
   pub near : (k : ℕ) → k < i → Near (163 - top / 2 ^ 23) (getD xs k nan)
 
-pub passed-none : (top : ℕ) (xs : List Float) → Passed top xs 0
-passed-none top xs = record { bound = zero-le; near = λ k h. absurd (not-suc-le-zero h) }
+module _ (n top : ℕ) (xs : List Float) where
+  pub passed-none : Passed n top xs 0
+  passed-none = record { bound = zero-le; near = λ k h. absurd (not-suc-le-zero h) }
 
-pub passed-more : (top : ℕ) (xs : List Float) (i : ℕ) (r : Bool) → Passed top xs i → i < 8 → (r ≡ true → Near (163 - top / 2 ^ 23) (getD xs i nan)) → r ≡ true → Passed top xs (i + 1)
-passed-more top xs i r P h n e = record { bound = omega arith; near = below-more (λ k. Near (163 - top / 2 ^ 23) (getD xs k nan)) i (P .near) (n e) }
+  pub passed-more : (i : ℕ) (r : Bool) → Passed n top xs i → i < n → (r ≡ true → Near (163 - top / 2 ^ 23) (getD xs i nan)) → r ≡ true → Passed n top xs (i + 1)
+  passed-more i r P h m e = record { bound = omega arith; near = below-more (λ k. Near (163 - top / 2 ^ 23) (getD xs k nan)) i (P .near) (m e) }
 
-pub passed-all : (top : ℕ) (xs : List Float) (i : ℕ) → Passed top xs i → 8 ≤ i → 0x1a80_0000 ≤ top → AllNear xs
-passed-all top xs i P h lo = record { q = 163 - top / 2 ^ 23; fine = omega arith; near = λ k l. P .near k (lt-of-lt-of-le l h) }
+  pub passed-all : (i : ℕ) → Passed n top xs i → n ≤ i → 0x1a80_0000 ≤ top → AllNear n xs
+  passed-all i P h lo = record { q = 163 - top / 2 ^ 23; fine = omega arith; near = λ k l. P .near k (lt-of-lt-of-le l h) }
 
-pub not-all-near : (xs : List Float) → false ≡ true → AllNear xs
-not-all-near xs e = absurd (true≢false (sym e))
+pub not-all-near : (n : ℕ) (xs : List Float) → false ≡ true → AllNear n xs
+not-all-near n xs e = absurd (true≢false (sym e))
 
 -- ---- as callers of `is_level` meet them: the coordinates of each axis
-module _ (x0 y0 x1 y1 x2 y2 x3 y3 : Float) (r : Bool) (level : r ≡ true → AllNear (x0 ∷ y0 ∷ x1 ∷ y1 ∷ x2 ∷ y2 ∷ x3 ∷ y3 ∷ [])) (passed : r ≡ true) where
+module _ (x0 y0 x1 y1 x2 y2 x3 y3 : Float) (r : Bool) (level : r ≡ true → AllNear 8 (x0 ∷ y0 ∷ x1 ∷ y1 ∷ x2 ∷ y2 ∷ x3 ∷ y3 ∷ [])) (passed : r ≡ true) where
   near-at : (k : ℕ) → k < 8 → Level (level passed .q) (getD (x0 ∷ y0 ∷ x1 ∷ y1 ∷ x2 ∷ y2 ∷ x3 ∷ y3 ∷ []) k nan)
   near-at k h = level passed .near k h .level
 
@@ -119,3 +120,14 @@ module _ (x0 y0 x1 y1 x2 y2 x3 y3 : Float) (r : Bool) (level : r ≡ true → Al
 
   pub along-y : Coordinates y0 y1 y2 y3
   along-y = record { q = level passed .q; fine = level passed .fine; start = near-at 1 (omega arith); control1 = near-at 3 (omega arith); control2 = near-at 5 (omega arith); end = near-at 7 (omega arith) }
+
+-- ---- and of `is_level_quad`
+module _ (x0 y0 x1 y1 x2 y2 : Float) (r : Bool) (level : r ≡ true → AllNear 6 (x0 ∷ y0 ∷ x1 ∷ y1 ∷ x2 ∷ y2 ∷ [])) (passed : r ≡ true) where
+  quad-near-at : (k : ℕ) → k < 6 → Level (level passed .q) (getD (x0 ∷ y0 ∷ x1 ∷ y1 ∷ x2 ∷ y2 ∷ []) k nan)
+  quad-near-at k h = level passed .near k h .level
+
+  pub quad-along-x : QuadCoordinates x0 x1 x2
+  quad-along-x = record { q = level passed .q; fine = level passed .fine; start = quad-near-at 0 (omega arith); control = quad-near-at 2 (omega arith); end = quad-near-at 4 (omega arith) }
+
+  pub quad-along-y : QuadCoordinates y0 y1 y2
+  quad-along-y = record { q = level passed .q; fine = level passed .fine; start = quad-near-at 1 (omega arith); control = quad-near-at 3 (omega arith); end = quad-near-at 5 (omega arith) }

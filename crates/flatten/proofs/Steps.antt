@@ -18,11 +18,11 @@ use Rattle.flatten.specs.Weight.{Weight, Weights}
 use Rattle.flatten.proofs.Exact.{weight-widens}
 
 -- ---- a test that passes at 1, 2, .., n
-abbrev upTo : (ℕ → Bool) → ℕ → Bool
+abbrev pub upTo : (ℕ → Bool) → ℕ → Bool
 upTo f zero = true
 upTo f (suc n) = f (suc n) && upTo f n
 
-at : (f : ℕ → Bool) (n : ℕ) → T (upTo f n) → (k : ℕ) → 0 < k → k ≤ n → T (f k)
+pub at : (f : ℕ → Bool) (n : ℕ) → T (upTo f n) → (k : ℕ) → 0 < k → k ≤ n → T (f k)
 at f zero t k p l = absurd (lt-irrefl 0 (lt-of-lt-of-le p l))
 at f (suc n) t k p l = elim (eq-or-lt-of-le l) [
   | inl e ↦ subst (λ (m : ℕ). T (f m)) (sym e) (and-l (f (suc n)) (upTo f n) t)
@@ -30,12 +30,12 @@ at f (suc n) t k p l = elim (eq-or-lt-of-le l) [
 ]
 
 -- ---- w is k / 2 ^ 15, above 0
-weighs : ℕ → Float → Bool
+unfoldable pub weighs : ℕ → Float → Bool
 weighs k nan = false
 weighs k (inf s) = false
 weighs k (fin s m e) = not s && (eqb (m * up e * 2 ^ 15) (k * down e) && ltb 0 k)
 
-weighs→Weight : (k : ℕ) (w : Float) → T (weighs k w) → Weight k w
+pub weighs→Weight : (k : ℕ) (w : Float) → T (weighs k w) → Weight k w
 unfolding weighs
 weighs→Weight k nan t = absurd t
 weighs→Weight k (inf s) t = absurd t

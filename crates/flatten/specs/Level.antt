@@ -25,13 +25,21 @@ pub record Coordinates (a b c d : Float) : Type 0 where
   pub control2 : Level q c
   pub end : Level q d
 
+-- the same of the three points of a quad
+pub record QuadCoordinates (a b c : Float) : Type 0 where
+  pub q : ℕ
+  pub fine : q ≤ 134
+  pub start : Level q a
+  pub control : Level q b
+  pub end : Level q c
+
 -- x is on the grid, and at most 2 ^ 22, the limit of a command list, in absolute value
 pub record Near (q : ℕ) (x : Float) : Type 0 where
   pub level : Level q x
   pub bounded : Bounded (2 ^ 22) x
 
--- all eight coordinates of a cubic are on one grid, and within the limit
-pub record AllNear (xs : List Float) : Type 0 where
+-- all n coordinates of a curve are on one grid, and within the limit
+pub record AllNear (n : ℕ) (xs : List Float) : Type 0 where
   pub q : ℕ
   pub fine : q ≤ 134
-  pub near : (k : ℕ) → k < 8 → Near q (getD xs k nan)
+  pub near : (k : ℕ) → k < n → Near q (getD xs k nan)

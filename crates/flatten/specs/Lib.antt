@@ -1,3 +1,3 @@
--- What is asked of the coordinates and the weights of a cubic, so that its points are exact sums in binary64.
+-- What is asked of the coordinates and the weights of a curve, so that its points are exact sums in binary64.
 pub mod Level
 pub mod Weight

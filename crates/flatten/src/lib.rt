@@ -1,12 +1,12 @@
-// Points on a cubic by exact sums in binary64, where its coordinates are of like size.
+// Points on a curve by exact sums in binary64, where its coordinates are of like size.
 ghost use mathlib.Core.Path.{_≡_};
 ghost use mathlib.Core.Bool.{true};
-ghost use Prim.Native.Nat.{_-_, _/_, _^_, _≤_, _<_};
+ghost use Prim.Native.Nat.{_-_, _*_, _/_, _^_, _≤_, _<_};
 ghost use lib.Ieee.{binary32, mul};
 ghost use Rattle.ieee.specs.Fused.{fma};
-ghost use Rattle.curve.specs.Curve.{cubicAt, stepOf};
-ghost use Rattle.flatten.specs.Level.{Coordinates, Near, AllNear};
-ghost use Rattle.flatten.specs.Weight.{Weights};
+ghost use Rattle.curve.specs.Curve.{quadAt, cubicAt, stepOf};
+ghost use Rattle.flatten.specs.Level.{Coordinates, QuadCoordinates, Near, AllNear};
+ghost use Rattle.flatten.specs.Weight.{Weights, QuadWeights};
 
 // The weighted sum of four coordinates, each product and each sum rounded to binary32's 24 digits as `mul_add` rounds it.
 fn weighted(w0: f64, w1: f64, w2: f64, w3: f64, a: f64, b: f64, c: f64, d: f64) -> f32
@@ -40,6 +40,35 @@ pub fn cubic_at(a: f32, b: f32, c: f32, d: f32, step: u32) -> f32
     weighted(w0, w1, w2, w3, a as f64, b as f64, c as f64, d as f64)
 }
 
+// The weighted sum of three coordinates, rounded as that of four.
+fn weighted_quad(w0: f64, w1: f64, w2: f64, a: f64, b: f64, c: f64) -> f32
+    requires { ⌜ QuadWeights w0 w1 w2 × QuadCoordinates a b c ⌝ }
+    ensures { λ r. ⌜ r ≡ fma binary32 w2 c (fma binary32 w0 a (mul binary32 w1 b)) ⌝ }
+{
+    narrow::narrowed(w2 * c + narrow::narrowed(w0 * a + narrow::narrowed(w1 * b))) as f32
+}
+
+// eighth / 8, as a step of 24: every third of them.
+fn of_eighth(eighth: u32) -> f32
+    requires { ⌜ eighth < 8 ⌝ }
+    ensures { λ r. ⌜ r ≡ stepOf 24 (3 * eighth) ⌝ }
+{
+    (3 * eighth) as f32 / 24.0
+}
+
+// One coordinate of the point of a quad at eighth / 8.
+pub fn quad_at(a: f32, b: f32, c: f32, eighth: u32) -> f32
+    requires { ⌜ (0 < eighth) × (eighth < 8) × QuadCoordinates a b c ⌝ }
+    ensures { λ r. ⌜ r ≡ quadAt a b c (stepOf 24 (3 * eighth)) ⌝ }
+{
+    let t = of_eighth(eighth);
+    let u = 1.0 - t;
+    let w0 = (u * u) as f64;
+    let w1 = (2.0 * u * t) as f64;
+    let w2 = (t * t) as f64;
+    weighted_quad(w0, w1, w2, a as f64, b as f64, c as f64)
+}
+
 // The bit pattern of x without its sign; a NaN's is larger than any number's.
 fn bare(x: f32) -> u32 {
     if x == x {
@@ -49,7 +78,7 @@ fn bare(x: f32) -> u32 {
     }
 }
 
-// The largest of eight bit patterns without their signs. Nothing is promised: `is_near` tests each number against it.
+// The largest of the bit patterns without their signs. Nothing is promised: `is_near` tests each number against it.
 fn largest(numbers: &[f32; 8]) -> u32 {
     let mut top: u32 = 0;
     let mut i: usize = 0;
@@ -86,7 +115,7 @@ fn is_near(x: f32, top: u32) -> bool
 
 // Whether the coordinates of a cubic are within 13 binades of the largest of them, or +0, and none is over 2^22.
 pub fn is_level(numbers: &[f32; 8]) -> bool
-    ensures { λ r. ⌜ (r ≡ true → AllNear (now (numbers .entry))) ⌝ }
+    ensures { λ r. ⌜ (r ≡ true → AllNear 8 (now (numbers .entry))) ⌝ }
 {
     let top = largest(numbers);
     if top < 0x1a80_0000 {
@@ -97,6 +126,42 @@ pub fn is_level(numbers: &[f32; 8]) -> bool
     }
     let mut i: usize = 0;
     while i < 8 {
+        if is_near(numbers[i], top) {
+            i += 1;
+        } else {
+            return false;
+        }
+    }
+    true
+}
+
+// The same of the six coordinates of a quad: a function of its own, so that each is part of its one caller.
+fn largest_of_quad(numbers: &[f32; 6]) -> u32 {
+    let mut top: u32 = 0;
+    let mut i: usize = 0;
+    while i < 6 {
+        let pattern = bare(numbers[i]);
+        if pattern > top {
+            top = pattern;
+        }
+        i += 1;
+    }
+    top
+}
+
+// Whether the coordinates of a quad are within 13 binades of the largest of them, or +0, and none is over 2^22.
+pub fn is_level_quad(numbers: &[f32; 6]) -> bool
+    ensures { λ r. ⌜ (r ≡ true → AllNear 6 (now (numbers .entry))) ⌝ }
+{
+    let top = largest_of_quad(numbers);
+    if top < 0x1a80_0000 {
+        return false;
+    }
+    if top > 0x4a80_0000 {
+        return false;
+    }
+    let mut i: usize = 0;
+    while i < 6 {
         if is_near(numbers[i], top) {
             i += 1;
         } else {

@@ -3,7 +3,7 @@ use Rattle.arc.proofs.Ways.{ways}
 use borrow.Author.Needs.{needs}
 use Prim.Native.Nat.{_-_, _≤_}
 use Rattle.curve.specs.Curve.{quadPoint}
-use Rattle.arc.proofs.Filled.{Filled}
+use Rattle.arc.specs.Filled.{Filled}
 use Rattle.arc.proofs.inside_quad.Statement.{statement}
 use Rattle.arc.proofs.inside_quad.Tie as tie
 
@@ -19,11 +19,11 @@ loop-holds c = search (needs, ways)
 add-step : tie.Need-add-step Inv-loop μ-loop
 add-step c = search (needs, ways)
 
-int-to-float-eval-quad : tie.Need-int-to-float-eval-quad Inv-loop μ-loop
-int-to-float-eval-quad c = search (needs, ways)
+quad-point-requires : tie.Need-quad-point-requires Inv-loop μ-loop
+quad-point-requires c κs = search (needs, ways)
 
-eval-quad-requires : tie.Need-eval-quad-requires Inv-loop μ-loop
-eval-quad-requires c κs = search (needs, ways)
+cast-k : tie.Need-cast-k Inv-loop μ-loop
+cast-k c = search (needs, ways)
 
 mul-xs : tie.Need-mul-xs Inv-loop μ-loop
 mul-xs c = search (needs, ways)
@@ -57,8 +57,8 @@ inside-quad-spec =
     μ-loop
     loop-holds
     add-step
-    int-to-float-eval-quad
-    eval-quad-requires
+    quad-point-requires
+    cast-k
     mul-xs
     array-write-xs
     mul-ys

@@ -3,7 +3,7 @@ use Rattle.arc.proofs.Ways.{ways}
 use borrow.Author.Needs.{needs}
 use Prim.Native.Nat.{_-_, _≤_}
 use Rattle.curve.specs.Curve.{cubicPoint}
-use Rattle.arc.proofs.Filled.{Filled}
+use Rattle.arc.specs.Filled.{Filled}
 use Rattle.arc.proofs.level_cubic.Statement.{statement}
 use Rattle.arc.proofs.level_cubic.Tie as tie
 

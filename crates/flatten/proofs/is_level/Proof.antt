@@ -7,7 +7,7 @@ use Rattle.flatten.proofs.is_level.Statement.{statement}
 use Rattle.flatten.proofs.is_level.Tie as tie
 
 abbrev Inv-loop : tie.InvT-loop
-Inv-loop numbers top i₀ i = Passed top numbers i
+Inv-loop numbers top i₀ i = Passed 8 top numbers i
 
 abbrev μ-loop : tie.MeasureT-loop
 μ-loop numbers top i₀ i = 8 - i
