@@ -9,8 +9,7 @@ use Rattle.ieee.specs.Limit.{allWithin, AllBounded}
 use Rattle.ieee.proofs.Bounds.{all-bounded-append, all-bounded-split, all-within→bounded, all-bounded→within}
 use Rattle.command.specs.declared.PathCommand.{PathCommand}
 use Rattle.command.specs.declared.PathCommand.the-variants.{Close}
-use Rattle.command.specs.Commands.{coordinatesOf, numbersOf}
-use Rattle.command.specs.Enlarged.{commandLimit}
+use Rattle.command.specs.Commands.{coordinatesOf, numbersOf, commandLimit}
 use Rattle.command.proofs.Passes.{numbers-append}
 use Rattle.command.proofs.Enlarged.{limit-value}
 

@@ -1,10 +1,10 @@
 -- Laws of enlarged command lists: the codes stay, the numbers are multiplied, and all are within the limit; and how such lists are built, and outcomes that hold them. Assumes nothing.
 use mathlib.Core.Path.{_≡_, refl, sym, ap, ap₂, _∙_, subst}
-use mathlib.Core.Bool.{Bool, true, false, cond, _&&_}
+use mathlib.Core.Bool.{Bool, true, false, cond}
 use mathlib.Core.List.{List, [], _∷_, _++_, map, map-append}
 use Prim.Native.Nat.{ℕ, zero, suc, _+_, _≤_}
 use native.Mathlib.Nat.{zero-lt-suc, le-refl}
-use lib.Dec.{leb, lit≤}
+use lib.Dec.{lit≤}
 use lib.ListN.{length, take, length-map}
 use lib.Ieee.{Float, ofBits}
 use lib.Ieee.Bits.{is-true}
@@ -16,10 +16,9 @@ use Rattle.ieee.proofs.Limits as Limits
 use Rattle.command.specs.declared.PathCommand.{PathCommand}
 use Rattle.command.specs.declared.PathCommand.the-variants.{Move, Line, Cubic, Close, Quad}
 use Rattle.command.specs.declared.Refusal.{Refusal}
-use Rattle.command.specs.declared.Refusal.the-variants.{BufferTooSmall}
-use Rattle.command.specs.Commands.{codeOf, coordinatesOf, codesOf, numbersOf}
-use Rattle.command.specs.Outcomes.{Outcome, refused, drawn, commandsOf, fitted}
-use Rattle.command.specs.Enlarged.{enlarged, AllOn, CommandTwin, Twins, enlargedOutcome, OutcomeTwin, commandLimit}
+use Rattle.command.specs.Commands.{codeOf, coordinatesOf, codesOf, numbersOf, commandLimit}
+use Rattle.command.specs.Outcomes.{Outcome, refused, drawn}
+use Rattle.command.specs.Enlarged.{enlarged, AllOn, CommandTwin, Twins, OutcomeTwin}
 use Rattle.command.proofs.Passes.{numbers-append}
 
 -- ---- numbers on a grid
@@ -77,12 +76,6 @@ module _ {k q b : ℕ} {cs cs' : List PathCommand} (t : Twins k q b cs cs') wher
 
   pub twins-length : length cs' ≡ length cs
   twins-length = ap length (t .commands) ∙ length-map cs (enlarged k)
-
-  pub twins-codes-length : length (codesOf cs') ≡ length (codesOf cs)
-  twins-codes-length = ap length twins-codes
-
-  pub twins-numbers-length : length (numbersOf cs') ≡ length (numbersOf cs)
-  twins-numbers-length = ap length twins-numbers ∙ length-map (numbersOf cs) (scale k)
 
   pub twins-grid : AllOn q (b + k) (numbersOf cs')
   twins-grid = subst (λ (xs : List Float). AllOn q (b + k) xs) (sym twins-numbers) (all-scale k q b (numbersOf cs) (t .grid))
@@ -170,14 +163,3 @@ module _ {k q b : ℕ} where
       go : (t : Bool) → OutcomeTwin k q b (cond t o p) (cond t o' p')
       go true = O
       go false = P
-
-  -- the last check: the codes and the numbers are as many
-  pub outcome-fitted : (codes numbers : ℕ) {o o' : Outcome} → OutcomeTwin k q b o o' → OutcomeTwin k q b (fitted codes numbers o) (fitted codes numbers o')
-  unfolding fitted
-  outcome-fitted codes numbers {o} {o'} t = subst (λ (p : Outcome). OutcomeTwin k q b (fitted codes numbers o) (fitted codes numbers p)) (sym (t .outcome)) (go o (t .grid))
-    where
-      go : (o : Outcome) → AllOn q b (numbersOf (commandsOf o)) → OutcomeTwin k q b (fitted codes numbers o) (fitted codes numbers (enlargedOutcome k o))
-      go (refused r) A = outcome-refused r
-      go (drawn cs) A =
-          let C : Twins k q b cs (map (enlarged k) cs) = record { commands = refl; grid = A } in
-          outcome-choice (λ i. leb (twins-codes-length C i) codes && leb (twins-numbers-length C i) numbers) (outcome-drawn C) (outcome-refused BufferTooSmall)

@@ -1,7 +1,7 @@
 -- Writing a list of commands at places of the buffers, a command at a time. The commands from place k on are still to do.
 -- Assumes nothing.
 use mathlib.Core.Path.{_≡_, refl, sym, ap, _∙_}
-use mathlib.Core.List.{List, [], _∷_}
+use mathlib.Core.List.{List}
 use Prim.Native.Nat.{ℕ, suc, _+_, _^_, _≤_, _<_, zero-le}
 use native.Mathlib.Nat.{add-zero}
 use native.Mathlib.Omega.{arith}

@@ -1,7 +1,7 @@
--- A command as a code and numbers, and a list of commands as the contents of two buffers. Definitions only.
+-- A command as a code and numbers, a list of commands as the contents of two buffers, and the limit of its numbers. Definitions only.
 use Prim.Native.Nat.{ℕ}
 use mathlib.Core.List.{List, [], _∷_, _++_}
-use lib.Ieee.{Float}
+use lib.Ieee.{Float, ofBits, binary32}
 use lib.ListN.{length, drop}
 use Rattle.command.specs.declared.PathCommand.{PathCommand}
 use Rattle.command.specs.declared.PathCommand.the-variants.{Move, Line, Cubic, Close, Quad}
@@ -30,6 +30,10 @@ codesOf (c ∷ cs) = codeOf c ∷ codesOf cs
 abbrev pub numbersOf : List PathCommand → List Float
 numbersOf [] = []
 numbersOf (c ∷ cs) = coordinatesOf c ++ numbersOf cs
+
+-- 4,194,304, which is 2 ^ 22: no number of a command list is larger
+abbrev pub commandLimit : Float
+commandLimit = ofBits binary32 0x4a80_0000
 
 -- a buffer with its beginning replaced: places past it keep their content
 abbrev pub onto {ℓ} : {A : Type ℓ} → List A → List A → List A

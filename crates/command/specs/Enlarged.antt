@@ -1,8 +1,8 @@
--- Commands and outcomes whose every number is multiplied by a power of two, and the limit of a command list's numbers. Definitions only.
+-- Commands and outcomes whose every number is multiplied by a power of two. Definitions only.
 use Prim.Native.Nat.{ℕ}
 use mathlib.Core.Path.{_≡_}
 use mathlib.Core.List.{List, [], _∷_, map}
-use lib.Ieee.{Float, ofBits, binary32}
+use lib.Ieee.{Float}
 use Rattle.ieee.specs.Grid.{scale, On}
 use Rattle.command.specs.declared.PathCommand.{PathCommand}
 use Rattle.command.specs.declared.PathCommand.the-variants.{Move, Line, Cubic, Close, Quad}
@@ -41,7 +41,3 @@ enlargedOutcome k (drawn cs) = drawn (map (enlarged k) cs)
 pub record OutcomeTwin (k q b : ℕ) (o o' : Outcome) : Type 0 where
   pub outcome : o' ≡ enlargedOutcome k o
   pub grid : AllOn q b (numbersOf (commandsOf o))
-
--- 4,194,304, which is 2 ^ 22: no number of a command list is larger
-abbrev pub commandLimit : Float
-commandLimit = ofBits binary32 0x4a800000

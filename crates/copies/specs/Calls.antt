@@ -3,16 +3,16 @@ use Prim.Native.Nat.{ℕ}
 use mathlib.Core.Bool.{Bool, true, cond, _&&_, _||_}
 use mathlib.Core.List.{List, [], _∷_}
 use lib.Dec.{ltb}
-use lib.Ieee.{Float, nan, binary32, ofBits, lt, eq}
+use lib.Ieee.{Float, nan, lt, eq}
 use lib.Ieee.Scale.{finite}
 use lib.ListN.{getD}
-use Rattle.ieee.specs.Literal.{zero32}
+use Rattle.ieee.specs.Literal.{zero32, numberLimit}
 use Rattle.ieee.specs.Sign.{abs}
 use Rattle.ieee.specs.Limit.{allWithin}
 use Rattle.command.specs.declared.Refusal.the-variants.{TooMany, OutOfRange, Unsupported, NoSuchCopy, NotFinite}
 use Rattle.repeater.specs.declared.Matrix.{Matrix}
 use Rattle.repeater.specs.declared.RepeaterStyle.{RepeaterStyle}
-use Rattle.repeater.specs.Repeater.{mostOffset, copyCount, copyTransform, copyOpacity}
+use Rattle.repeater.specs.Repeater.{mostCopies, mostOffset, copyCount, copyTransform, copyOpacity}
 use Rattle.copies.specs.declared.Verdict.{Verdict}
 use Rattle.copies.specs.declared.Verdict.the-variants.{Fault, Sound}
 use Rattle.copies.specs.Answers.{Answer, refused, answered}
@@ -38,11 +38,11 @@ repeaterNumbers r =
 
 -- Over 4,096 copies, which is the same of their number and of its ceiling, or an absolute offset over 4,096. An infinity meets this before 3, but copies of minus infinity do not.
 unfoldable pub isCrowded : RepeaterStyle → Bool
-isCrowded r = lt mostOffset (r .copies) || lt mostOffset (abs (r .offset))
+isCrowded r = lt mostCopies (r .copies) || lt mostOffset (abs (r .offset))
 
 -- 1,048,576
 abbrev pub repeaterLimit : Float
-repeaterLimit = ofBits binary32 0x4980_0000
+repeaterLimit = numberLimit
 
 -- the checks 2, 3, and 5 for a rotation that is not zero; the mode may be any
 unfoldable pub verdictOf : RepeaterStyle → Verdict

@@ -1,7 +1,8 @@
 -- A float as a count: the whole number below it, and above it, as Rust's `floor` and `ceil` followed by `as usize` give it. A negative number counts as 0. Definitions only.
 use Prim.Native.Nat.{ℕ, _*_}
 use mathlib.Core.Bool.{cond}
-use lib.Ieee.{Float, nan, inf, fin, binary32, ofBits, up, down}
+use lib.Ieee.{Float, nan, inf, fin, up, down}
+use Rattle.ieee.specs.Literal.{numberLimit}
 use Rattle.ieee.specs.Whole.{wholeDown, wholeUp}
 
 -- An infinity has no count; callers have refused it.
@@ -17,4 +18,4 @@ countUp (fin s m e) = cond s 0 (wholeUp (m * up e) (down e))
 
 -- 1,048,576: a larger number is not counted
 abbrev pub countLimit : Float
-countLimit = ofBits binary32 0x4980_0000
+countLimit = numberLimit

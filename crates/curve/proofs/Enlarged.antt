@@ -1,7 +1,6 @@
 -- The length of a line, a quad or a cubic whose coordinates are on a grid, enlarged by a power of two: it is multiplied too, as is the length after each of a curve's chords.
 -- Assumes nothing.
-use mathlib.Core.Path.{refl}
-use mathlib.Core.Bool.{Bool, true, false, _&&_}
+use mathlib.Core.Bool.{Bool, true, _&&_}
 use mathlib.Core.List.{List, [], _∷_}
 use Prim.Native.Nat.{ℕ, zero, suc, _+_, _≤_, _<_}
 use native.Mathlib.Nat.{le-refl}
@@ -9,13 +8,13 @@ use native.Mathlib.Omega.{arith}
 use lib.Dec.{T}
 use lib.Ieee.{Float, binary32, add, sub, mul, div, neg, ofInt, ofBits, ofFields, round, sum, size, units, odd, span, climb}
 use lib.Ieee.Fits.{and-l, and-r}
-use Rattle.ieee.specs.Literal.{zero32, one32}
+use Rattle.ieee.specs.Literal.{one32}
 use Rattle.ieee.specs.Operators.{_⊖_, _⊗_}
 use Rattle.ieee.specs.Fused.{fma}
 use Rattle.ieee.specs.Grid.{on, On, Twin}
 use Rattle.ieee.proofs.Tests.{allUpTo, up-to}
-use Rattle.ieee.proofs.Grid.{zero-on, on→On}
-use Rattle.ieee.proofs.Twins.{twin-weaken, twin-add-absorb, twin-sub, twin-mul-right, twin-fma}
+use Rattle.ieee.proofs.Grid.{on→On}
+use Rattle.ieee.proofs.Twins.{finer, zero-twin, twin-add-absorb, twin-sub, twin-mul-right, twin-fma}
 use Rattle.ieee.proofs.Hypot.{twin-hypot}
 use Rattle.curve.specs.declared.Point.{Point}
 use Rattle.curve.specs.Curve.{two32, three32, squared, cubed, distance, quadAt, evalQuad, cubicAt, evalCubic, stepOf, quadPoint, cubicPoint, chords, quadLengthAfter, cubicLengthAfter}
@@ -24,9 +23,6 @@ use Rattle.curve.specs.Curve.{two32, three32, squared, cubed, distance, 
 pub record PointTwin (k q b : ℕ) (p p' : Point) : Type 0 where
   pub x-twin : Twin k q b (p .x) (p' .x)
   pub y-twin : Twin k q b (p .y) (p' .y)
-
-finer : {k q b : ℕ} (q' b' : ℕ) {x x' : Float} → q ≤ q' → b ≤ b' → Twin k q b x x' → Twin k q' b' x x'
-finer {k} {q} {b} q' b' {x} {x'} Q B X = twin-weaken k q b q' b' x x' Q B X
 
 finer-point : {k q b : ℕ} (q' b' : ℕ) {p p' : Point} → q ≤ q' → b ≤ b' → PointTwin k q b p p' → PointTwin k q' b' p p'
 finer-point q' b' Q B P = record { x-twin = finer q' b' Q B (P .x-twin); y-twin = finer q' b' Q B (P .y-twin) }
@@ -114,10 +110,6 @@ chord-twin {k} {q} {b} Q B {p} {p'} {r} {r'} P R =
     let dx = twin-sub binary32 k q b (r .x) (r' .x) (p .x) (p' .x) (omega arith) (omega arith) (R .x-twin) (P .x-twin) in
     let dy = twin-sub binary32 k q b (r .y) (r' .y) (p .y) (p' .y) (omega arith) (omega arith) (R .y-twin) (P .y-twin) in
     twin-hypot binary32 k q (suc b) (r .x ⊖ p .x) (r' .x ⊖ p' .x) (r .y ⊖ p .y) (r' .y ⊖ p' .y) Q B dx dy
-
-pub zero-twin : (k q b : ℕ) → Twin k q b zero32 zero32
-unfolding ofBits
-zero-twin k q b = record { grid = zero-on q b false; is = refl }
 
 -- The bound is the same however many chords there are.
 chords-twin : {k q b c : ℕ} → q + 23 ≤ 149 → b + 26 < c → c + k ≤ 127 → {p p' : ℕ → Point} (m : ℕ) → ((i : ℕ) → i ≤ m → PointTwin k q b (p i) (p' i))

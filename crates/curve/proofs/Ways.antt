@@ -1,10 +1,11 @@
 -- What each way out of a function of this crate owes, as the code meets it. Assumes nothing.
 use mathlib.Core.Path.{_≡_, ap₂}
-use Prim.Native.Nat.{ℕ, _+_, _-_, _<_}
+use Prim.Native.Nat.{ℕ, _+_, _<_}
 use native.Mathlib.Omega.{arith}
 use mir.Val.{Fits}
 use mir.Syntax.{w16}
 use lib.Ieee.{Float, binary32}
+use borrow.Author.Count.{falls}
 use Rattle.ieee.specs.Literal.{one32}
 use Rattle.ieee.specs.Fused.{fma}
 use Rattle.ieee.specs.Root.{hypotOf}
@@ -63,7 +64,4 @@ quad-step-fits n h = record { fits = omega arith }
 pub cubic-step-fits : (n : ℕ) → n < 32 → Fits w16 (n + 1)
 cubic-step-fits n h = record { fits = omega arith }
 
-pub fewer : (m n : ℕ) → n < m → m - (n + 1) < m - n
-fewer m n h = omega arith
-
-pub ruleset ways = (distance-is, quad-is, cubic-is, quad-step-fits, cubic-step-fits, fewer, chordwise)
+pub ruleset ways = (distance-is, quad-is, cubic-is, quad-step-fits, cubic-step-fits, falls, chordwise)

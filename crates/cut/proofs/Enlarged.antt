@@ -14,8 +14,8 @@ use lib.ListN.{length}
 use Rattle.ieee.specs.Literal.{zero32, one32}
 use Rattle.ieee.specs.Operators.{_⊖_, _⊗_}
 use Rattle.ieee.specs.Grid.{scale, On, Twin}
-use Rattle.ieee.proofs.Grid.{weaken, on→On, sub-on}
-use Rattle.ieee.proofs.Twins.{le-shrunk, twin-mul, twin-max}
+use Rattle.ieee.proofs.Grid.{weaken, sub-on}
+use Rattle.ieee.proofs.Twins.{zero-twin, le-shrunk, twin-mul, twin-max}
 use Rattle.command.specs.declared.PathCommand.{PathCommand}
 use Rattle.command.specs.declared.Refusal.{Refusal}
 use Rattle.command.specs.declared.Refusal.the-variants.{TooMany, OutOfRange, Unlisted, TooShort}
@@ -23,7 +23,6 @@ use Rattle.command.specs.Commands.{codesOf, numbersOf}
 use Rattle.command.specs.Enlarged.{AllOn, Twins}
 use Rattle.command.specs.Outcomes.{drawn}
 use Rattle.command.specs.Outcomes as outcomes
-use Rattle.curve.proofs.Enlarged.{zero-twin}
 use Rattle.judge.specs.Lists.{judgeList}
 use Rattle.judge.proofs.Enlarged.{judged-first, judged-enlarged}
 use Rattle.measure.specs.Length.{pathLength}
@@ -33,7 +32,7 @@ use Rattle.trim.specs.declared.TrimStyle.{TrimStyle}
 use Rattle.trim.specs.Trim.{normalizedTrimSegments}
 use Rattle.trim.specs.declared.Ranges.{Ranges}
 use Rattle.trim.specs.Ranges.{rangeEnds}
-use Rattle.trim.proofs.Grid.{ranges-on}
+use Rattle.trim.proofs.Grid.{one-on, ranges-on}
 use Rattle.cut.specs.declared.Trimmed.the-variants as trimmed
 use Rattle.cut.specs.Cuts.{partOf, cutAll}
 use Rattle.cut.specs.Calls.{isFiniteTrim, isTrimMode, shortest, trimMeasured, trimLengths}
@@ -52,10 +51,6 @@ cons-twins : {k q b : ℕ} {x x' : Float} {xs xs' : List Float} → Twin k q b x
 cons-twins X XS = record { numbers = λ i. X .is i ∷ XS .numbers i; grid = (X .grid, XS .grid) }
 
 -- ---- the cut lengths of a length and of its multiple, at the same ends
-one-on : On 37 0 one32
-unfolding ofBits ofFields odd trailingZeros
-one-on = on→On 37 0 one32 tt
-
 less-on : (x y : Float) → On 37 0 x → On 37 0 y → On 37 1 (x ⊖ y)
 less-on x y X Y = sub-on binary32 37 0 x y (omega arith) (omega arith) X Y
 

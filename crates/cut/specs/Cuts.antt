@@ -1,5 +1,5 @@
 -- The lengths at which a path is cut for its visible ranges: the products of `trim_path` of drawing_paths.rs. Definitions only.
-use mathlib.Core.List.{List, [], _∷_}
+use mathlib.Core.List.{List, [], _∷_, _++_}
 use lib.Ieee.{Float}
 use Rattle.ieee.specs.Literal.{zero32, one32}
 use Rattle.ieee.specs.Operators.{_⊖_, _⊗_}
@@ -21,4 +21,4 @@ cutNumbers cuts = cuts .before ∷ cuts .visible ∷ cuts .after ∷ []
 abbrev pub cutAll : Float → List Float → List Float
 cutAll total [] = []
 cutAll total (start ∷ []) = []
-cutAll total (start ∷ end ∷ ends) = partOf total start ∷ partOf total (end ⊖ start) ∷ partOf total (one32 ⊖ end) ∷ cutAll total ends
+cutAll total (start ∷ end ∷ ends) = cutNumbers (cutsOf total start end) ++ cutAll total ends

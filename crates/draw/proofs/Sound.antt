@@ -11,9 +11,8 @@ use Rattle.ieee.specs.Limit.{allWithin, Bounded}
 use Rattle.ieee.proofs.Bounds.{all-within→bounded, all-bounded-at}
 use Rattle.command.specs.declared.PathCommand.{PathCommand}
 use Rattle.command.specs.declared.Refusal.the-variants.{Empty, TooMany, OutOfRange, Unlisted, OutOfBounds}
-use Rattle.command.specs.Commands.{numbersOf}
+use Rattle.command.specs.Commands.{numbersOf, commandLimit}
 use Rattle.command.specs.Outcomes.{Outcome, refused, drawn, commandsOf}
-use Rattle.command.specs.Enlarged.{commandLimit}
 use Rattle.path.specs.Path.{pathCommands}
 use Rattle.path.proofs.Sound.{path-sound}
 use Rattle.rect.specs.Rect.{rectCorners}
@@ -31,7 +30,7 @@ use Rattle.draw.proofs.Sources.{entries-dropped, drawn-source}
 abbrev pub SoundOutcome : Outcome → Type 0
 SoundOutcome o = allWithin commandLimit (numbersOf (commandsOf o)) ≡ true
 
-refusal-sound : allWithin commandLimit [] ≡ true
+pub refusal-sound : allWithin commandLimit [] ≡ true
 unfolding allWithin
 refusal-sound = refl
 

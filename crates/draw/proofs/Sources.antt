@@ -1,25 +1,30 @@
--- What a source that is drawn has met: each check, so that its numbers are there and within the limit, and its commands are the shape's, which are few. Assumes nothing.
+-- What a source or a vertex list that is drawn has met: each check, so that its numbers are there and within the limit, and its commands are the shape's, which are few.
+-- Assumes nothing.
 use mathlib.Core.Path.{_≡_, refl}
 use mathlib.Core.Bool.{Bool, true, false, cond}
 use mathlib.Core.List.{List}
-use Prim.Native.Nat.{_+_, _*_, _≤_}
+use Prim.Native.Nat.{ℕ, _+_, _*_, _≤_, _<_}
 use native.Mathlib.Omega.{arith}
-use lib.Dec.{ltb}
+use lib.Dec.{eqb, ltb}
 use lib.Ieee.{Float}
 use lib.ListN.{length, take, drop, length-drop}
-use borrow.Author.Tests.{ltb-false}
+use borrow.Author.Tests.{eqb-false, ltb-false}
 use Rattle.ieee.specs.Limit.{allWithin}
 use Rattle.command.specs.declared.PathCommand.{PathCommand}
 use Rattle.command.specs.declared.Refusal.{Refusal}
-use Rattle.command.specs.declared.Refusal.the-variants.{Empty, TooMany, OutOfRange, Unsupported, OutOfBounds}
+use Rattle.command.specs.declared.Refusal.the-variants.{Empty, TooMany, OutOfRange, Unlisted, Unsupported, OutOfBounds}
 use Rattle.command.specs.Commands.{numbersOf}
 use Rattle.command.specs.Outcomes.{refused, drawn}
 use Rattle.command.proofs.Passes.{numbers-few}
+use Rattle.path.specs.Path.{pathCommands}
+use Rattle.path.proofs.Paths.{pathCommands-few}
 use Rattle.shape.specs.Shape.{shapeCommands, Fit}
 use Rattle.shape.proofs.Few.{few}
 use Rattle.item.specs.declared.ItemRow.{ItemRow}
+use Rattle.item.specs.Rows.{itemRow}
 use Rattle.draw.specs.Checks.{coordinateLimit}
-use Rattle.draw.specs.Items.{isBare, entriesOf, itemShape, drawSource}
+use Rattle.draw.specs.Paths.{drawPath}
+use Rattle.draw.specs.Items.{isDrawable, isBare, entriesOf, itemShape, drawSource, drawItem}
 use Rattle.draw.proofs.Ways.{item-fits}
 
 -- the row's numbers are the first of those from its place on
@@ -71,3 +76,23 @@ module _ (row : ItemRow) (items : List Float) (cs : List PathCommand) (e : drawS
 
   pub source-numbers-few : length (numbersOf cs) ≤ 6 * 1026
   source-numbers-few = omega (arith, numbers-few cs, source-few)
+
+pub drawn-item-few : (row : List ℕ) (items : List Float) (cs : List PathCommand) → drawItem row items ≡ drawn cs → length cs ≤ 1026
+unfolding drawItem
+drawn-item-few row items cs e = go (ltb (length row) 6) (isDrawable (itemRow row 0)) e
+  where
+    go : (a b : Bool) → cond a (refused OutOfBounds) (cond b (drawSource (itemRow row 0) items) (refused Unlisted)) ≡ drawn cs → length cs ≤ 1026
+    go true b e = let z : _≡_ {A = ℕ} 0 1 = cc in absurd (omega arith)
+    go false true e = source-few (itemRow row 0) items cs e
+    go false false e = let z : _≡_ {A = ℕ} 0 1 = cc in absurd (omega arith)
+
+-- ---- a vertex list
+module _ (closed : ℕ) (v : List Float) (count : ℕ) (cs : List PathCommand) (e : drawPath closed v count ≡ drawn cs) where
+  pub drawn-path : (0 < count) × (count ≤ 1024) × (cs ≡ pathCommands closed v count)
+  unfolding drawPath
+  drawn-path =
+      let p = passed (eqb count 0) (ltb 1024 count) (ltb 1 closed) (ltb (length v) (6 * count)) (allWithin coordinateLimit (take (6 * count) v)) Empty TooMany Unlisted OutOfBounds OutOfRange (pathCommands closed v count) cs e in
+      (omega (arith, eqb-false count 0 (p .0)), ltb-false 1024 count (p .1), p .5)
+
+  pub drawn-path-few : length cs ≤ 1026
+  drawn-path-few = rw (drawn-path .2) (pathCommands-few closed v count (drawn-path .0) (drawn-path .1))

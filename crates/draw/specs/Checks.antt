@@ -1,8 +1,9 @@
 -- The limit of a shape's numbers, and what a call's checks hand on. Definitions only.
 use Prim.Native.Nat.{_≤_}
 use mathlib.Core.List.{List}
-use lib.Ieee.{Float, ofBits, binary32}
+use lib.Ieee.{Float}
 use lib.ListN.{length, drop}
+use Rattle.ieee.specs.Literal.{numberLimit}
 use Rattle.command.specs.Outcomes.{Outcome, refused, drawn}
 use Rattle.shape.specs.Shape.{shapeCommands, Fit}
 use Rattle.draw.specs.declared.Checked.{Checked}
@@ -10,7 +11,7 @@ use Rattle.draw.specs.declared.Checked.the-variants.{Fault, Sound}
 
 -- 1,048,576
 abbrev pub coordinateLimit : Float
-coordinateLimit = ofBits binary32 0x49800000
+coordinateLimit = numberLimit
 
 -- what is found, as an outcome: the numbers of a sound shape start at its place of the list
 unfoldable pub outcomeOf : Checked → List Float → Outcome

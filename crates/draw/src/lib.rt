@@ -6,7 +6,7 @@ use shape::Shape;
 ghost use mathlib.Core.Path.{_≡_};
 ghost use Prim.Native.Nat.{_+_, _≤_};
 ghost use lib.ListN.{length, drop};
-ghost use Rattle.command.specs.Outcomes.{Filled, Outcome, fitted, drawnNumber, drawnCodes, drawnNumbers};
+ghost use Rattle.command.specs.Outcomes.{Filled, fitted, drawnNumber, drawnCodes, drawnNumbers};
 ghost use Rattle.draw.specs.Checks.{outcomeOf, Ready};
 ghost use Rattle.draw.specs.Paths.{drawPath};
 ghost use Rattle.draw.specs.Items.{isDrawable, isBare, entriesOf, itemShape, drawSource, drawItem};

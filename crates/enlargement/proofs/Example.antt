@@ -15,7 +15,7 @@ use Rattle.ieee.specs.Choice.{min, max, clamp}
 use Rattle.ieee.specs.Fused.{fma}
 use Rattle.ieee.specs.Grid.{on}
 use Rattle.ieee.specs.Limit.{allWithin}
-use Rattle.ieee.specs.Literal.{zero32, one32}
+use Rattle.ieee.specs.Literal.{zero32, one32, hundred32}
 use Rattle.ieee.specs.Remainder.{remEuclid}
 use Rattle.ieee.specs.Root.{hypotOf, isqrt}
 use Rattle.ieee.specs.Whole.{roundAway}
@@ -54,9 +54,6 @@ four = ofBits binary32 0x4080_0000
 
 abbrev ten : Float
 ten = ofBits binary32 0x4120_0000
-
-abbrev hundred : Float
-hundred = ofBits binary32 0x42c8_0000
 
 -- (0, 0), (3, 0), (3, 4) without tangents
 abbrev triangle : List Float
@@ -102,7 +99,7 @@ plate = record {
     mode = 1;
     anchor = record { x = one32; y = four };
     position = record { x = ten; y = zero32 };
-    scale = record { x = hundred; y = hundred };
+    scale = record { x = hundred32; y = hundred32 };
     rotation = zero32;
     «start_opacity» = one32;
     «end_opacity» = zero32;

@@ -23,9 +23,6 @@ use Rattle.ieee.proofs.Limits.{within-both}
 use Rattle.float.specs.Parts.{PartsOf}
 
 -- ---- a pattern is read of a number, and has 32 bits
-pub number : (x : Float) → ne x x ≡ false → T (not (isNan x))
-number = is-number
-
 pub pattern-fits : (x : Float) → fits binary32 x ≡ true → toBits binary32 x < 2 ^ 64
 pattern-fits x f = let l : toBits binary32 x < 2 ^ 32 = toBits-lt binary32 x (subst T (sym f) tt) in omega arith
 
@@ -160,7 +157,7 @@ within-low limit x h = sym (within-both x limit ∙ ap (λ (b : Bool). b && le (
 pub within-not : (limit x : Float) → le x limit ≡ false → false ≡ within limit x
 within-not limit x h = sym (within-both x limit ∙ ap (λ (b : Bool). b && le (neg limit) x) h)
 
-pub ruleset ways = (number, pattern-fits, split-nan, split-inf, split-finite, ok-minus, ok-plus, signed-minus, signed-plus, encode-finite, encode-inf, abs-nan, abs-ok, abs-number, min-first, min-beside-nan, min-second, max-first, max-beside-nan, max-second, at-least-low, at-least-stay, clamp-high, clamp-stay, within-low, within-not)
+pub ruleset ways = (is-number, pattern-fits, split-nan, split-inf, split-finite, ok-minus, ok-plus, signed-minus, signed-plus, encode-finite, encode-inf, abs-nan, abs-ok, abs-number, min-first, min-beside-nan, min-second, max-first, max-beside-nan, max-second, at-least-low, at-least-stay, clamp-high, clamp-stay, within-low, within-not)
 
 -- ---- all_within
 -- the numbers from place i on are still to be judged, and settle the answer

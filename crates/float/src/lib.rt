@@ -1,7 +1,6 @@
 // An f32 taken apart and written by its bit pattern, without its sign, and chosen between others.
 ghost use mathlib.Core.Path.{_≡_};
-ghost use mathlib.Core.Bool.{Bool, cond};
-ghost use Prim.Native.Nat.{ℕ, _+_, _*_, _^_, _≤_, _<_};
+ghost use Prim.Native.Nat.{_^_, _≤_, _<_};
 ghost use lib.Ieee as Ieee;
 ghost use lib.Ieee.{binary32, units};
 ghost use lib.Ieee.Scale.{finite};

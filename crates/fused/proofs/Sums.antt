@@ -1,21 +1,13 @@
 -- Which total `sum` rounds: by the signs, and by which of the two is larger. Assumes nothing.
 use mathlib.Core.Path.{_≡_, refl, sym, ap, _∙_}
 use mathlib.Core.Logic.{_⊎_, inl, inr}
-use Prim.Native.Nat.{ℕ, _+_, _-_, _≤_, _<_, compare, Ordering, Ordering·lt, Ordering·eq, Ordering·gt}
+use Prim.Native.Nat.{ℕ, _+_, _-_, _<_, compare, Ordering, Ordering·lt, Ordering·eq, Ordering·gt}
 use native.Mathlib.Nat.{add-comm, le-of-lt, le-of-eq}
 use native.Mathlib.Omega.{arith}
 use mathlib.Core.Bool.{Bool, true, false, Bool·beq, and-true, and-false}
-use lib.Dec.{ltb, lt→ltb}
-use lib.Arith.{le→nltb}
 use lib.Ieee.{Format, round, sum}
-use lib.Ieee.Bits.{is-true, is-false}
+use borrow.Author.Tests.{lt-ltb, le-ltb}
 use Rattle.ieee.proofs.Tests.{Cmp, cmp}
-
-is-less : (a b : ℕ) → a < b → ltb a b ≡ true
-is-less a b l = is-true (ltb a b) (lt→ltb a b l)
-
-not-less : (a b : ℕ) → b ≤ a → ltb a b ≡ false
-not-less a b l = is-false (ltb a b) (le→nltb a b l)
 
 module _ (f : Format) (s t : Bool) (a b c : ℕ) where
   pub sum-like : Bool·beq s t ≡ true → sum f s a t b c ≡ round f s (a + b) c
@@ -24,15 +16,15 @@ module _ (f : Format) (s t : Bool) (a b c : ℕ) where
 
   pub sum-less : Bool·beq s t ≡ false → a < b → sum f s a t b c ≡ round f t (b - a) c
   unfolding sum
-  sum-less h l = rw (h, is-less a b l)
+  sum-less h l = rw (h, lt-ltb a b l)
 
   pub sum-more : Bool·beq s t ≡ false → b < a → sum f s a t b c ≡ round f s (a - b) c
   unfolding sum
-  sum-more h l = rw (h, not-less a b (le-of-lt l), is-less b a l) (ap (λ (x : Bool). round f x (a - b) c) (and-true s))
+  sum-more h l = rw (h, le-ltb a b (le-of-lt l), lt-ltb b a l) (ap (λ (x : Bool). round f x (a - b) c) (and-true s))
 
   pub sum-none : Bool·beq s t ≡ false → a ≡ b → sum f s a t b c ≡ round f false 0 c
   unfolding sum
-  sum-none h e = rw (h, not-less a b (le-of-eq (sym e)), not-less b a (le-of-eq e)) (λ i. round f (and-false s i) (gone i) c)
+  sum-none h e = rw (h, le-ltb a b (le-of-eq (sym e)), le-ltb b a (le-of-eq e)) (λ i. round f (and-false s i) (gone i) c)
     where
       gone : a - b ≡ 0
       gone = omega arith

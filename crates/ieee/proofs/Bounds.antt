@@ -1,10 +1,10 @@
 -- Each operation keeps a bound, on no particular grid: from numbers at most a and b it makes a number at most c, where the largest exact result rounds to c at most (`Reach`).
 -- Nothing is asked of the numbers but that they are finite and bounded. The test `within` against a whole number is just such a bound. Assumes nothing.
 use mathlib.Core.Path.{_≡_, refl, sym, ap, _∙_, subst}
-use mathlib.Core.Bool.{Bool, true, false, not, _&&_, cond}
+use mathlib.Core.Bool.{Bool, true, false, not, cond, and-eq-true-iff}
 use mathlib.Core.List.{List, [], _∷_, _++_}
 use Prim.Native.Nat.{ℕ, zero, suc, _+_, _*_, _^_, _≤_, _<_, zero-le}
-use native.Mathlib.Nat.{le-trans, le-of-eq, le-of-suc-le-suc, not-suc-le-zero, lt-of-le-of-lt, lt-of-lt-of-le, zero-lt-suc, suc-add, zero-add, zero-mul, mul-one, add-mul, mul-comm, mul-assoc, mul-right-comm, mul-le-mul, mul-le-mul-left, mul-le-mul-right, le-of-mul-le-mul-right, mul-pos, div-mul-le-self, pow-succ'}
+use native.Mathlib.Nat.{le-trans, le-of-eq, le-of-suc-le-suc, not-suc-le-zero, lt-of-le-of-lt, lt-of-lt-of-le, zero-lt-suc, suc-add, zero-add, zero-mul, mul-one, add-mul, mul-comm, mul-assoc, mul-right-comm, mul-le-mul-left, mul-le-mul-right, le-of-mul-le-mul-right, mul-pos, div-mul-le-self, pow-succ'}
 use native.Mathlib.Omega.{arith}
 use lib.IntN.{ℤ, pos}
 use lib.Dec.{T, lit≤}
@@ -24,6 +24,7 @@ use Rattle.ieee.specs.Fused.{fma}
 use Rattle.ieee.specs.Cut.{cut}
 use Rattle.ieee.specs.Grid.{On}
 use Rattle.ieee.specs.Root.{square, count, hypotOf}
+use Rattle.ieee.proofs.Digits.{squares-lt}
 use Rattle.ieee.proofs.Cut.{cut-small, cut-le-pow, cut-absorb}
 use Rattle.ieee.proofs.Round.{prec-pos, round-cut, below-top}
 use Rattle.ieee.proofs.Signed.{P, N, Le}
@@ -257,13 +258,6 @@ pub fma-bounded : (f : Format) (a b g c : ℕ) (x y z : Float) → Reach f (a * 
 fma-bounded f a b g c x y z R X Y Z = fma-times f a (a * b) g c x y z R X (times-bounded a b y Y) Z
 
 -- ---- the root of two squares: it is not negative, and at most twice as large
-squares : (a b w : ℕ) → a ≤ w → b ≤ w → 0 < w → a * a + b * b < 2 * w * (2 * w)
-squares a b w A B W =
-    let x : a * a ≤ w * w = mul-le-mul A A in
-    let y : b * b ≤ w * w = mul-le-mul B B in
-    let z : 0 < w * w = mul-pos W W in
-    omega arith
-
 -- in units of the format's smallest value
 count-le : (f : Format) (b m : ℕ) (e : ℤ) → m * up e ≤ 2 ^ b * down e → count f m e ≤ 2 ^ (b + low f)
 count-le f b m e h =
@@ -276,7 +270,7 @@ module _ (f : Format) (b : ℕ) (B : suc b ≤ emax f) where
   root-le : (m n : ℕ) → m ≤ 2 ^ (b + low f) → n ≤ 2 ^ (b + low f) → cutRoot (prec f) (square m + square n) ≤ 2 ^ (suc b + low f)
   root-le m n M L =
       cutRoot-le (prec f) (square m + square n) (suc b + low f)
-      (subst (λ (z : ℕ). square m + square n < z * z) two (squares m n (2 ^ (b + low f)) M L (pow-pos (b + low f))))
+      (subst (λ (z : ℕ). square m + square n < z * z) two (squares-lt m n (2 ^ (b + low f)) M L (pow-pos (b + low f))))
     where
       two : 2 * 2 ^ (b + low f) ≡ 2 ^ (suc b + low f)
       two = sym (pow-succ' 2 (b + low f)) ∙ ap (λ (z : ℕ). 2 ^ z) (sym (suc-add b (low f)))
@@ -329,24 +323,17 @@ bounded→within n L (fin s m e) v X =
     (le-of-values (fin false m e) L (m * up e) (down e) n 1 (down-pos e) (zero-lt-suc 0) (refl, refl) v (le-trans (le-of-eq (mul-one (m * up e))) X))
 
 -- ---- lists
-both-true : (a b : Bool) → (a && b) ≡ true → (a ≡ true) × (b ≡ true)
-both-true true b h = (refl, h)
-both-true false b h = absurd (subst T (sym h) tt)
-
-and-true : (a b : Bool) → a ≡ true → b ≡ true → (a && b) ≡ true
-and-true a b h k = ap (λ (x : Bool). x && b) h ∙ k
-
 pub all-within→bounded : (n : ℕ) (L : Float) (xs : List Float) → HasValue L false n 1 → allWithin L xs ≡ true → AllBounded n xs
 unfolding allWithin
 all-within→bounded n L [] v h = tt
 all-within→bounded n L (x ∷ xs) v h =
-    let t = both-true (within L x) (allWithin L xs) h in
+    let t = and-eq-true-iff (within L x) (allWithin L xs) .0 h in
     (within→bounded n L x v (t .0), all-within→bounded n L xs v (t .1))
 
 pub all-bounded→within : (n : ℕ) (L : Float) (xs : List Float) → HasValue L false n 1 → AllBounded n xs → allWithin L xs ≡ true
 unfolding allWithin
 all-bounded→within n L [] v X = refl
-all-bounded→within n L (x ∷ xs) v X = and-true (within L x) (allWithin L xs) (bounded→within n L x v (X .0)) (all-bounded→within n L xs v (X .1))
+all-bounded→within n L (x ∷ xs) v X = and-eq-true-iff (within L x) (allWithin L xs) .1 (bounded→within n L x v (X .0), all-bounded→within n L xs v (X .1))
 
 pub all-bounded-append : (n : ℕ) (xs ys : List Float) → AllBounded n xs → AllBounded n ys → AllBounded n (xs ++ ys)
 all-bounded-append n [] ys X Y = Y

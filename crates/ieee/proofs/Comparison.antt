@@ -1,4 +1,5 @@
--- Comparisons by the values of their operands (`lt-at`, `eq-at`, `le-at`), and that multiplying both sides by 2 ^ k changes none. Assumes nothing.
+-- Comparisons by the values of their operands (`lt-at`, `eq-at`, `le-at`), and that multiplying both sides by 2 ^ k changes none.
+-- `le-scale` and `eq-scale` stand beside `lt-scale` for readers: only `twin-le` and `twin-eq`, which are for readers too, need them. Assumes nothing.
 use mathlib.Core.Path.{_≡_, refl, sym, ap, _∙_}
 use Prim.Native.Nat.{ℕ, zero, suc, _+_, _*_, _^_, _<_}
 use native.Mathlib.Nat.{zero-mul, add-mul, mul-comm, mul-assoc, mul-left-comm, mul-pos}

@@ -12,7 +12,7 @@ use lib.Ieee.Digits.{size-lt, size-le, size-reaches, back}
 use lib.Ieee.Fits.{kept-lt, nearest-le}
 use lib.Ieee.Nearest.{closest, closest-same, closest-mono, nearest-ge}
 use Rattle.ieee.specs.Cut.{cut}
-use Rattle.ieee.proofs.Digits.{size-gt, size-mono, size-shift}
+use Rattle.ieee.proofs.Digits.{sub-shift, size-gt, size-mono, size-shift}
 use Rattle.ieee.proofs.Closest.{closest-exact, closest-below-half}
 
 pub cut-is : (p n : ℕ) → cut p n ≡ closest n (2 ^ (size n - p)) * 2 ^ (size n - p)
@@ -39,9 +39,6 @@ pub cut-small : (p n : ℕ) → n < 2 ^ p → cut p n ≡ n
 cut-small p n h = subst (λ (x : ℕ). cut p x ≡ x) (mul-one n) (cut-exact p n 0 h)
 
 -- ---- a power of two goes through
-more : (z p t x : ℕ) → p ≤ z → x ≡ z + t → x - p ≡ z - p + t
-more z p t x h e = omega arith
-
 pub cut-scale : (p n t : ℕ) → 0 < p → cut p (n * 2 ^ t) ≡ cut p n * 2 ^ t
 cut-scale p n t P = go (ltb (size n) p) (ltb→lt (size n) p) (nltb→le (size n) p)
   where
@@ -51,7 +48,7 @@ cut-scale p n t P = go (ltb (size n) p) (ltb→lt (size n) p) (nltb→le (size n
         cut-exact p n t h ∙ ap (λ (x : ℕ). x * 2 ^ t) (sym (cut-small p n h))
     go false s l =
         let k = size n - p in
-        let e : size (n * 2 ^ t) - p ≡ k + t = more (size n) p t (size (n * 2 ^ t)) (l tt) (size-shift n t (lt-of-lt-of-le P (l tt))) in
+        let e : size (n * 2 ^ t) - p ≡ k + t = sub-shift (size n) p t (size (n * 2 ^ t)) (l tt) (size-shift n t (lt-of-lt-of-le P (l tt))) in
         cut-is p (n * 2 ^ t)
         ∙ ap (λ (z : ℕ). closest (n * 2 ^ t) (2 ^ z) * 2 ^ z) e
         ∙ ap (λ (z : ℕ). z * 2 ^ (k + t)) (closest-same (n * 2 ^ t) (2 ^ (k + t)) n (2 ^ k) (pow-pos (k + t)) (pow-pos k) (simp (mul-assoc, mul-comm, pow-add)))

@@ -42,6 +42,20 @@ square-pow a i = mul-mul-mul-comm a (2 ^ i) a (2 ^ i) ∙ ap (λ (x : ℕ). a * 
 pub sq-lt : {a b : ℕ} → a * a < b * b → a < b
 sq-lt h = lt-of-not-le (λ g. not-le-of-lt h (mul-le-mul g g))
 
+pub squares-lt : (a b w : ℕ) → a ≤ w → b ≤ w → 0 < w → a * a + b * b < 2 * w * (2 * w)
+squares-lt a b w A B W =
+    let x : a * a ≤ w * w = mul-le-mul A A in
+    let y : b * b ≤ w * w = mul-le-mul B B in
+    let z : 0 < w * w = mul-pos W W in
+    omega arith
+
+-- ---- sums and differences of exponents
+pub le-without : (d k E : ℕ) → d + k ≤ E → d ≤ E
+le-without d k E h = omega arith
+
+pub sub-shift : (z p t x : ℕ) → p ≤ z → x ≡ z + t → x - p ≡ z - p + t
+sub-shift z p t x h e = omega arith
+
 -- ---- how many digits
 pub size-gt : (n j : ℕ) → 2 ^ j ≤ n → j < size n
 size-gt n j h = lt-of-not-le (λ (g : size n ≤ j). not-le-of-lt (lt-of-lt-of-le (size-lt n) (pow-mono g)) h)

@@ -2,7 +2,7 @@
 -- multiplies the result, as data (`..-scale`). Assumes nothing.
 use mathlib.Core.Path.{_≡_, refl, sym, ap, _∙_, subst}
 use Prim.Native.Nat.{ℕ, zero, suc, _+_, _-_, _*_, _/_, _%_, _^_, _≤_, _<_, zero-le}
-use native.Mathlib.Nat.{le-trans, le-of-eq, le-of-lt, lt-of-le-of-lt, zero-lt-suc, zero-mul, one-mul, mul-one, add-zero, add-mul, mul-comm, mul-assoc, mul-right-comm, mul-le-mul, mul-le-mul-right, le-of-mul-le-mul-right, mul-lt-mul-of-pos-right, div-add-mod', mul-mod-left, two-pow-succ}
+use native.Mathlib.Nat.{le-trans, le-of-eq, lt-of-le-of-lt, zero-lt-suc, zero-mul, one-mul, mul-one, add-zero, add-right-comm, add-mul, mul-comm, mul-assoc, mul-right-comm, mul-le-mul, mul-le-mul-right, le-of-mul-le-mul-right, mul-lt-mul-of-pos-right, div-add-mod', mul-mod-left, two-pow-succ}
 use native.Mathlib.Omega.{arith}
 use mathlib.Core.Bool.{Bool, true, false, not, _&&_, Bool·beq, cond}
 use lib.IntN.{ℤ, pos, negsuc}
@@ -40,7 +40,7 @@ weaken q b q' b' x Q B X =
 pub zero-on : (q b : ℕ) (s : Bool) → On q b (fin s 0 (pos 0))
 zero-on q b s = record { sign = s; count = 0; value = (refl, zero-mul (2 ^ q)); bound = zero-le }
 
--- ---- the test and the record
+-- ---- the test and the record, each from the other. `On→on` is for readers: it says that the test misses no number of the grid.
 pub on→On : (q b : ℕ) (x : Float) → T (on q b x) → On q b x
 on→On q b nan t = absurd t
 on→On q b (inf s) t = absurd t
@@ -70,15 +70,12 @@ pub On→on : (q b : ℕ) (x : Float) → On q b x → T (on q b x)
 On→on q b x X = On-on q b x (X .sign) (X .count) (X .value) (X .bound)
 
 -- ---- enlarged
-swap : (b q k : ℕ) → b + q + k ≡ b + k + q
-swap b q k = omega arith
-
 pub scale-on : (k q b : ℕ) (x : Float) → On q b x → On q (b + k) (scale k x)
 scale-on k q b x X = record {
   sign = X .sign;
   count = X .count * 2 ^ k;
   value = scale-val k x (X .sign) (X .count) (2 ^ q) (X .value);
-  bound = le-trans (mul-le-mul-right (2 ^ k) (X .bound)) (le-of-eq (sym (pow-add 2 (b + q) k) ∙ ap (λ (z : ℕ). 2 ^ z) (swap b q k)));
+  bound = le-trans (mul-le-mul-right (2 ^ k) (X .bound)) (le-of-eq (sym (pow-add 2 (b + q) k) ∙ ap (λ (z : ℕ). 2 ^ z) (add-right-comm b q k)));
 }
 
 -- ---- the sign
@@ -157,9 +154,6 @@ absorbed p q b c m n P h M N = cut-absorb p (m + n) (c + q) (b + q) P (gap c q p
 
     gap : (c q p b : ℕ) → c + p < b → c + q + p < b + q
     gap c q p b h = omega arith
-
-no-k : (d k E : ℕ) → d + k ≤ E → d ≤ E
-no-k d k E h = omega arith
 
 module _ (f : Format) (q : ℕ) (Q : q ≤ low f) (b c : ℕ) (x y : Float) (X : On q b x) (Y : On q c y) where
   pub add-on-at : (d : ℕ) → d ≤ emax f → cut (prec f) (X .count + Y .count) ≤ 2 ^ (d + q) → On q d (add f x y)
@@ -262,28 +256,7 @@ module _ (f : Format) (r q : ℕ) (Q : r + q ≤ low f) (c b d : ℕ) (w x z : F
       ∙ sum-scale f (r + q) Q s (W .count * X .count) (Z .sign) (Z .count) k (under-top f (r + q) (suc e) k (cut (prec f) (W .count * X .count + Z .count)) E (cut-fma e CB D))
       ∙ ap (scale k) (sym fma-is)
 
--- ---- any finite value that the format holds
-zero-flat : (u c d : ℕ) → 0 * u * c ≡ 0 * d
-zero-flat u c d = ap (λ (x : ℕ). x * c) (zero-mul u) ∙ zero-mul c ∙ sym (zero-mul d)
-
-pub fits-on : (f : Format) (s : Bool) (m : ℕ) (e : ℤ) → T (fits f (fin s m e)) → On (low f) (suc (emax f)) (fin s m e)
-fits-on f s zero e t = record { sign = s; count = 0; value = (refl, zero-flat (up e) (2 ^ low f) (down e)); bound = zero-le }
-fits-on f s (suc m) e t =
-    let g = fits-elim f s m e t in
-    let pl = place (low f) e (g .2) in
-    let h : suc m * up e * 2 ^ low f ≡ suc m * 2 ^ (pl .0) * down e = mul-assoc (suc m) (up e) (2 ^ low f) ∙ ap (λ (x : ℕ). suc m * x) (pl .1) ∙ sym (mul-assoc (suc m) (2 ^ (pl .0)) (down e)) in
-    record {
-      sign = s;
-      count = suc m * 2 ^ (pl .0);
-      value = (refl, h);
-      bound =
-          le-of-mul-le-mul-right
-          (le-trans (le-of-eq (sym h))
-          (le-trans (mul-le-mul-right (2 ^ low f) (le-of-lt (g .3))) (le-of-eq (mul-right-comm (2 ^ suc (emax f)) (down e) (2 ^ low f) ∙ ap (λ (x : ℕ). x * down e) (sym (pow-add 2 (suc (emax f)) (low f)))))))
-          (down-pos e);
-    }
-
--- a value that is 2 ^ -e at least has its last digit at 2 ^ -(e + prec - 1) or above
+-- ---- a value that is 2 ^ -e at least has its last digit at 2 ^ -(e + prec - 1) or above
 last : (a p e : ℕ) → suc a < p + e → suc a ≤ e + (p - 1)
 last a p e h = omega arith
 

@@ -2,7 +2,7 @@
 -- Assumes nothing.
 use mathlib.Core.Path.{_≡_, refl, sym, ap, _∙_, subst}
 use Prim.Native.Nat.{ℕ, zero, suc, _+_, _-_, _*_, _/_, _^_, _≤_, _<_}
-use native.Mathlib.Nat.{le-refl, le-trans, le-of-eq, zero-lt-suc, sub-self, add-comm, add-zero, add-mul, zero-mul, one-mul, mul-one, mul-comm, mul-assoc, mul-right-comm, mul-mul-mul-comm, mul-le-mul, mul-le-mul-right, mul-lt-mul-of-pos-right, mul-pos, mul-div-cancel, pow-succ'}
+use native.Mathlib.Nat.{le-refl, le-trans, le-of-eq, zero-lt-suc, sub-self, add-comm, add-zero, add-mul, zero-mul, one-mul, mul-one, mul-comm, mul-assoc, mul-right-comm, mul-mul-mul-comm, mul-le-mul-right, mul-lt-mul-of-pos-right, mul-pos, mul-div-cancel, pow-succ'}
 use native.Mathlib.Omega.{arith}
 use mathlib.Core.Bool.{Bool, false}
 use lib.IntN.{ℤ}
@@ -12,7 +12,7 @@ use lib.Ieee.Fits.{down-pos}
 use lib.Ieee.Exact.{HasValue}
 use Rattle.ieee.specs.Root.{square, isqrt, rootOf, count, hypotOf}
 use Rattle.ieee.specs.Grid.{scale, On, Twin}
-use Rattle.ieee.proofs.Digits.{four, pow-split, size-gt}
+use Rattle.ieee.proofs.Digits.{four, pow-split, squares-lt, le-without, size-gt}
 use Rattle.ieee.proofs.Value.{rescale, scale-val, scale-fits, value-unique}
 use Rattle.ieee.proofs.Round.{prec-pos, exps, under-top, below-top}
 use Rattle.ieee.proofs.Isqrt.{isqrt-ge, cutRoot, cutRoot-shift, cutRoot-le, cutRoot-zero}
@@ -77,13 +77,6 @@ digits-shift f (suc n) t =
     ∙ cutRoot-shift (prec f) (suc n * 4 ^ (prec f - 1)) t (prec-pos f) (full (prec f) (suc n) (zero-lt-suc n))
 
 -- ---- two values on the grid of 2 ^ -q
-below : (a b w : ℕ) → a ≤ w → b ≤ w → 0 < w → a * a + b * b < 2 * w * (2 * w)
-below a b w A B W =
-    let x : a * a ≤ w * w = mul-le-mul A A in
-    let y : b * b ≤ w * w = mul-le-mul B B in
-    let z : 0 < w * w = mul-pos W W in
-    omega arith
-
 gap : (q p l : ℕ) → q + (p - 1) ≤ l → l - q ≡ p - 1 + (l - (q + (p - 1)))
 gap q p l h = omega arith
 
@@ -131,10 +124,7 @@ digits-le f q b m n M N =
     (subst (λ (x : ℕ). (m * m + n * n) * 4 ^ (prec f - 1) < x * x) e
     (subst (λ (x : ℕ). (m * m + n * n) * x < 2 * w * c * (2 * w * c)) (sym (four (prec f - 1)))
     (subst (λ (x : ℕ). (m * m + n * n) * (c * c) < x) (sym (mul-mul-mul-comm (2 * w) c (2 * w) c))
-    (mul-lt-mul-of-pos-right (below m n w M N (pow-pos (b + q))) (mul-pos (pow-pos (prec f - 1)) (pow-pos (prec f - 1)))))))
-
-no-k : (d k E : ℕ) → d + k ≤ E → d ≤ E
-no-k d k E h = omega arith
+    (mul-lt-mul-of-pos-right (squares-lt m n w M N (pow-pos (b + q))) (mul-pos (pow-pos (prec f - 1)) (pow-pos (prec f - 1)))))))
 
 assoc : (p t k : ℕ) → k + (p + t) ≡ p + (t + k)
 assoc p t k = omega arith
@@ -172,7 +162,7 @@ module _ (f : Format) (q : ℕ) (Q : q + (prec f - 1) ≤ low f) (b : ℕ) (x y 
       let N = sq * 4 ^ (prec f - 1 + spare f q) in
       let N' = sq * 4 ^ (prec f - 1 + (spare f q + k)) in
       let u : d * 2 ^ k < 2 ^ (g + suc (emax f)) = under-top f g (suc b) k d B sq-le in
-      let v = base-val f q sq Q (below-top f g (suc b) d (no-k (suc b) k (emax f) B) sq-le) in
+      let v = base-val f q sq Q (below-top f g (suc b) d (le-without (suc b) k (emax f) B) sq-le) in
       hypot-grown k
       ∙ value-unique f (rootOf f N') (scale k (rootOf f N)) false (d * 2 ^ k) (2 ^ g) (pow-pos g) (root-fits f N')
       (scale-fits f k (rootOf f N) false d (2 ^ g) (root-fits f N) v (subst (λ (z : ℕ). d * 2 ^ k < z) (pow-add 2 g (suc (emax f)) ∙ mul-comm (2 ^ g) (2 ^ suc (emax f))) u))
@@ -182,6 +172,6 @@ module _ (f : Format) (q : ℕ) (Q : q + (prec f - 1) ≤ low f) (b : ℕ) (x y 
 
 pub twin-hypot : (f : Format) (k q b : ℕ) (x x' y y' : Float) → q + (prec f - 1) ≤ low f → suc b + k ≤ emax f → Twin k q b x x' → Twin k q b y y' → Twin k (q + (prec f - 1)) (suc b) (hypotOf f x y) (hypotOf f x' y')
 twin-hypot f k q b x x' y y' Q B X Y = record {
-  grid = hypot-on f q Q b x y (X .grid) (Y .grid) (no-k (suc b) k (emax f) B);
+  grid = hypot-on f q Q b x y (X .grid) (Y .grid) (le-without (suc b) k (emax f) B);
   is = (λ i. hypotOf f (X .is i) (Y .is i)) ∙ hypot-scale f q Q b x y (X .grid) (Y .grid) k B;
 }

@@ -11,7 +11,7 @@ use lib.Ieee.{size, nearest}
 use lib.Ieee.Digits.{size-lt, size-le}
 use lib.Ieee.Fits.{kept-lt, nearest-le}
 use Rattle.ieee.specs.Root.{square, root, isqrt, nearestRoot}
-use Rattle.ieee.proofs.Digits.{four, four-pos, sq-lt, size-cut}
+use Rattle.ieee.proofs.Digits.{four, four-pos, sq-lt, sub-shift, size-cut}
 use Rattle.ieee.proofs.Tests.{compare-mul}
 
 -- ---- r is the whole part of √n
@@ -84,14 +84,11 @@ nearestRoot-shift n k t =
 unfoldable pub cutRoot : ℕ → ℕ → ℕ
 cutRoot p n = nearestRoot n (size (isqrt n) - p) * 2 ^ (size (isqrt n) - p)
 
-more : (z p t x : ℕ) → p ≤ z → x ≡ z + t → x - p ≡ z - p + t
-more z p t x h e = omega arith
-
 pub cutRoot-shift : (p n t : ℕ) → 0 < p → p ≤ size (isqrt n) → cutRoot p (n * 4 ^ t) ≡ cutRoot p n * 2 ^ t
 unfolding cutRoot
 cutRoot-shift p n t P h =
     let k = size (isqrt n) - p in
-    let e : size (isqrt (n * 4 ^ t)) - p ≡ k + t = more (size (isqrt n)) p t (size (isqrt (n * 4 ^ t))) h (size-isqrt n t (lt-of-lt-of-le P h)) in
+    let e : size (isqrt (n * 4 ^ t)) - p ≡ k + t = sub-shift (size (isqrt n)) p t (size (isqrt (n * 4 ^ t))) h (size-isqrt n t (lt-of-lt-of-le P h)) in
     ap (λ (z : ℕ). nearestRoot (n * 4 ^ t) z * 2 ^ z) e
     ∙ ap (λ (z : ℕ). z * 2 ^ (k + t)) (nearestRoot-shift n k t)
     ∙ ap (λ (z : ℕ). nearestRoot n k * z) (pow-add 2 k t)

@@ -1,8 +1,8 @@
--- The operations are monotone for `le`: sums and differences, products by a number that is not negative, quotients by a number above zero; and a sum with a number that is not
+-- The operations are monotone for `le`: sums and differences, products and quotients by a number above zero; and a sum with a number that is not
 -- negative is no smaller. Assumes nothing.
 use mathlib.Core.Path.{_≡_, refl, sym, ap, _∙_, subst}
 use Prim.Native.Nat.{ℕ, _+_, _*_, _≤_, _<_}
-use native.Mathlib.Nat.{zero-mul, mul-zero, mul-one, mul-comm, mul-assoc, mul-left-comm, mul-mul-mul-comm, mul-pos}
+use native.Mathlib.Nat.{mul-one, mul-comm, mul-assoc, mul-left-comm, mul-mul-mul-comm, mul-pos}
 use native.Mathlib.Omega.{arith}
 use mathlib.Core.Bool.{Bool, true, false, not, cond}
 use lib.IntN.{ℤ, pos}
@@ -13,21 +13,16 @@ use lib.Ieee.Fits.{up-pos, down-pos}
 use lib.Ieee.Bits.{cond-no}
 use lib.Ieee.Scale.{finite}
 use lib.Ieee.Positive.{positive}
-use Rattle.ieee.specs.Literal.{zero32, one32}
+use Rattle.ieee.specs.Literal.{zero32}
 use Rattle.ieee.proofs.Round.{round-own}
 use Rattle.ieee.proofs.Operations.{unlike-false, sub-is}
-use Rattle.ieee.proofs.Signed.{P, N, Le, Le-mul, Le-zeros}
+use Rattle.ieee.proofs.Signed.{P, N, Le, Le-mul}
 use Rattle.ieee.proofs.Sum.{sum-of, total-mul}
 use Rattle.ieee.proofs.Order.{le→Le, le-number-r, le-trans, round-le, extend}
 
--- ---- the literals
 pub zero-is : zero32 ≡ fin false 0 (pos 0)
 unfolding ofBits ofFields odd trailingZeros
 zero-is = refl
-
-one-is : one32 ≡ fin false 1 (pos 0)
-unfolding ofBits ofFields odd trailingZeros
-one-is = refl
 
 -- ---- sums: in the first number
 add-is : (f : Format) (s : Bool) (m : ℕ) (e : ℤ) (u : Bool) (k : ℕ) (g : ℤ) → add f (fin s m e) (fin u k g) ≡ sum f s (m * up e * down g) u (k * up g * down e) (down e * down g)
@@ -187,31 +182,6 @@ mul-le f (fin false k g) x y p h = extend (λ (v : Float). mul f v (fin false k 
 
     keeps : (s : Bool) → mul f (inf s) (fin false k g) ≡ inf s
     keeps s = opened s ∙ cond-no (eqb k 0) nan (inf (unlike s false)) (above k p) ∙ ap inf (unlike-false s)
-
--- ---- products of finite numbers by one that is not negative, a zero of either sign included
-by-minus-zero : (f : Format) (k : ℕ) (g : ℤ) → k * up g ≡ 0 → (s : Bool) (m : ℕ) (e : ℤ) (t : Bool) (n : ℕ) (d : ℤ) → T (le (mul f (fin s m e) (fin true k g)) (mul f (fin t n d) (fin true k g)))
-by-minus-zero f k g z s m e t n d =
-    let flat : (A c : ℕ) → A * (k * up g) * c ≡ 0 = λ (A c : ℕ). ap (λ (x : ℕ). A * x * c) z ∙ ap (λ (x : ℕ). x * c) (mul-zero A) ∙ zero-mul c in
-    subst (λ (v : Float). T (le v (mul f (fin t n d) (fin true k g)))) (sym (mul-is f s m e true k g))
-    (subst (λ (v : Float). T (le (round f (unlike s true) (m * up e * (k * up g)) (down e * down g)) v)) (sym (mul-is f t n d true k g))
-    (round-le f (unlike s true) (m * up e * (k * up g)) (down e * down g) (unlike t true) (n * up d * (k * up g)) (down d * down g) (mul-pos (down-pos e) (down-pos g)) (mul-pos (down-pos d) (down-pos g))
-    (Le-zeros (unlike s true) (unlike t true) (m * up e * (k * up g) * (down d * down g)) (n * up d * (k * up g) * (down e * down g)) (flat (m * up e) (down d * down g)) (flat (n * up d) (down e * down g)))))
-
-pub mul-le-finite : (f : Format) (z x y : Float) → T (finite z) → T (finite x) → T (finite y) → T (le zero32 z) → T (le x y) → T (le (mul f x z) (mul f y z))
-mul-le-finite f z x y Z X Y h k = go z x y Z X Y (subst (λ (v : Float). T (le v z)) zero-is h) k
-  where
-    go : (z x y : Float) → T (finite z) → T (finite x) → T (finite y) → T (le (fin false 0 (pos 0)) z) → T (le x y) → T (le (mul f x z) (mul f y z))
-    go nan x y Z X Y h l = absurd Z
-    go (inf s) x y Z X Y h l = absurd Z
-    go (fin u k g) nan y Z X Y h l = absurd X
-    go (fin u k g) (inf s) y Z X Y h l = absurd X
-    go (fin u k g) (fin s m e) nan Z X Y h l = absurd Y
-    go (fin u k g) (fin s m e) (inf t) Z X Y h l = absurd Y
-    go (fin false k g) (fin s m e) (fin t n d) Z X Y h l = mul-fin f k g s m e t n d l
-    go (fin true k g) (fin s m e) (fin t n d) Z X Y h l = by-minus-zero f k g (zero-of (0 * up (pos 0) * down g) (k * up g) (le→Le false 0 (pos 0) true k g h)) s m e t n d
-      where
-        zero-of : (a b : ℕ) → a + b * 1 ≤ 0 + 0 → b ≡ 0
-        zero-of a b h = omega arith
 
 -- ---- quotients by a number above zero
 div-is : (f : Format) (s : Bool) (m : ℕ) (e : ℤ) (k : ℕ) (g : ℤ) → T (ltb 0 k) → div f (fin s m e) (fin false k g) ≡ round f s (m * up e * down g) (k * up g * down e)

@@ -1,5 +1,5 @@
 -- `le` is a total order on the floats that are no NaN, up to a zero's sign; changing signs turns it round; and the larger of two fractions rounds to a float that is no smaller.
--- Assumes nothing.
+-- `le-antisym` and `le-total` complete the order for readers: nothing here needs them. Assumes nothing.
 use mathlib.Core.Path.{_≡_, refl, sym, ap, _∙_, subst}
 use mathlib.Core.Logic.{_⊎_, inl, inr}
 use Prim.Native.Nat.{ℕ, zero, suc, _+_, _*_, _^_, _≤_, _<_}

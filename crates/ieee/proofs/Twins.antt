@@ -1,4 +1,5 @@
--- One law for each operation: where the operands are multiplied by 2 ^ k, so is the result, and it is on a grid again. These are the laws to cite. Assumes nothing.
+-- One law for each operation: where the operands are multiplied by 2 ^ k, so is the result, and it is on a grid again. These are the laws to cite.
+-- `twin-le` and `twin-eq` stand beside `twin-lt` for readers: nothing here needs them. Assumes nothing.
 use mathlib.Core.Path.{_≡_, refl, sym, ap, _∙_, subst}
 use Prim.Native.Nat.{ℕ, zero, suc, _+_, _*_, _^_, _≤_, _<_}
 use native.Mathlib.Nat.{add-comm, mul-pos, mul-comm, mul-assoc, mul-le-mul-right, le-mul-of-pos-right}
@@ -6,28 +7,35 @@ use native.Mathlib.Omega.{arith}
 use mathlib.Core.Bool.{Bool, true, false, cond, _||_}
 use lib.Dec.{T}
 use lib.Pow.{pow-pos}
-use lib.Ieee.{Float, nan, inf, fin, Format, prec, emax, low, neg, add, sub, mul, lt, le, eq, isNan, below, level}
+use lib.Ieee.{Float, nan, inf, fin, Format, prec, emax, low, neg, add, sub, mul, lt, le, eq, isNan, below, level, ofBits}
 use lib.Ieee.Exact.{HasValue}
+use Rattle.ieee.specs.Literal.{zero32}
 use Rattle.ieee.specs.Sign.{abs}
 use Rattle.ieee.specs.Choice.{min, max, atLeast, atMost, clamp}
 use Rattle.ieee.specs.Fused.{fma}
 use Rattle.ieee.specs.Cut.{cut}
 use Rattle.ieee.specs.Grid.{scale, On, Twin}
+use Rattle.ieee.proofs.Digits.{le-without}
 use Rattle.ieee.proofs.Value.{rescale, scale-val}
 use Rattle.ieee.proofs.Signed.{Le, test→Le, Le→test}
 use Rattle.ieee.proofs.Comparison.{le-at, lt-scale, le-scale, eq-scale}
 use Rattle.ieee.proofs.Operations.{mul-swap, fma-swap}
 use Rattle.ieee.proofs.Round.{prec-pos}
-use Rattle.ieee.proofs.Grid.{weaken, neg-on, abs-on, neg-scale, abs-scale, absorbed, add-on-at, add-scale-at, add-on, add-scale, add-on-absorb, add-scale-absorb, sub-on, sub-scale, mul-on, mul-scale, fma-on, fma-scale}
-
-less : (b k E : ℕ) → b + k ≤ E → b ≤ E
-less b k E h = omega arith
+use Rattle.ieee.proofs.Grid.{weaken, zero-on, neg-on, abs-on, neg-scale, abs-scale, absorbed, add-on-at, add-scale-at, add-on, add-scale, add-on-absorb, add-scale-absorb, sub-on, sub-scale, mul-on, mul-scale, fma-on, fma-scale}
 
 pub twin-of : (k q b : ℕ) (x : Float) → On q b x → Twin k q b x (scale k x)
 twin-of k q b x X = record { grid = X; is = refl }
 
 pub twin-weaken : (k q b q' b' : ℕ) (x x' : Float) → q ≤ q' → b ≤ b' → Twin k q b x x' → Twin k q' b' x x'
 twin-weaken k q b q' b' x x' Q B X = record { grid = weaken q b q' b' x Q B (X .grid); is = X .is }
+
+-- the same, with what the twin shows left out
+pub finer : {k q b : ℕ} (q' b' : ℕ) {x x' : Float} → q ≤ q' → b ≤ b' → Twin k q b x x' → Twin k q' b' x x'
+finer {k} {q} {b} q' b' {x} {x'} Q B X = twin-weaken k q b q' b' x x' Q B X
+
+pub zero-twin : (k q b : ℕ) → Twin k q b zero32 zero32
+unfolding ofBits
+zero-twin k q b = record { grid = zero-on q b false; is = refl }
 
 pub twin-neg : (k q b : ℕ) (x x' : Float) → Twin k q b x x' → Twin k q b (neg x) (neg x')
 twin-neg k q b x x' X = record { grid = neg-on q b x (X .grid); is = ap neg (X .is) ∙ neg-scale k x }
@@ -37,21 +45,21 @@ twin-abs k q b x x' X = record { grid = abs-on q b x (X .grid); is = ap abs (X .
 
 pub twin-add : (f : Format) (k q b : ℕ) (x x' y y' : Float) → q ≤ low f → suc b + k ≤ emax f → Twin k q b x x' → Twin k q b y y' → Twin k q (suc b) (add f x y) (add f x' y')
 twin-add f k q b x x' y y' Q B X Y = record {
-  grid = add-on f q b x y Q (less (suc b) k (emax f) B) (X .grid) (Y .grid);
+  grid = add-on f q b x y Q (le-without (suc b) k (emax f) B) (X .grid) (Y .grid);
   is = (λ i. add f (X .is i) (Y .is i)) ∙ add-scale f q b k x y Q B (X .grid) (Y .grid);
 }
 
 -- a running sum: x is at most 2 ^ b and stays so, however often a y of at most 2 ^ c is added, where c + prec < b
 pub twin-add-absorb : (f : Format) (k q b c : ℕ) (x x' y y' : Float) → q ≤ low f → b + k ≤ emax f → c + prec f < b → Twin k q b x x' → Twin k q c y y' → Twin k q b (add f x y) (add f x' y')
 twin-add-absorb f k q b c x x' y y' Q B C X Y = record {
-  grid = add-on-absorb f q b c x y Q (less b k (emax f) B) C (X .grid) (Y .grid);
+  grid = add-on-absorb f q b c x y Q (le-without b k (emax f) B) C (X .grid) (Y .grid);
   is = (λ i. add f (X .is i) (Y .is i)) ∙ add-scale-absorb f q b c k x y Q B C (X .grid) (Y .grid);
 }
 
 -- the same with the small one first
 pub twin-add-absorb-right : (f : Format) (k q b c : ℕ) (x x' y y' : Float) → q ≤ low f → b + k ≤ emax f → c + prec f < b → Twin k q c x x' → Twin k q b y y' → Twin k q b (add f x y) (add f x' y')
 twin-add-absorb-right f k q b c x x' y y' Q B C X Y = record {
-  grid = add-on-at f q Q c b x y (X .grid) (Y .grid) b (less b k (emax f) B) few;
+  grid = add-on-at f q Q c b x y (X .grid) (Y .grid) b (le-without b k (emax f) B) few;
   is = (λ i. add f (X .is i) (Y .is i)) ∙ add-scale-at f q Q c b x y (X .grid) (Y .grid) b k B few;
 }
   where
@@ -62,14 +70,14 @@ twin-add-absorb-right f k q b c x x' y y' Q B C X Y = record {
 
 pub twin-sub : (f : Format) (k q b : ℕ) (x x' y y' : Float) → q ≤ low f → suc b + k ≤ emax f → Twin k q b x x' → Twin k q b y y' → Twin k q (suc b) (sub f x y) (sub f x' y')
 twin-sub f k q b x x' y y' Q B X Y = record {
-  grid = sub-on f q b x y Q (less (suc b) k (emax f) B) (X .grid) (Y .grid);
+  grid = sub-on f q b x y Q (le-without (suc b) k (emax f) B) (X .grid) (Y .grid);
   is = (λ i. sub f (X .is i) (Y .is i)) ∙ sub-scale f q b k x y Q B (X .grid) (Y .grid);
 }
 
 -- a weight w, which is not multiplied, on either side
 pub twin-mul : (f : Format) (k q b r c : ℕ) (x x' w : Float) → q + r ≤ low f → b + c + k ≤ emax f → Twin k q b x x' → On r c w → Twin k (q + r) (b + c) (mul f x w) (mul f x' w)
 twin-mul f k q b r c x x' w Q B X W = record {
-  grid = mul-on f q r Q b c x w (X .grid) W (less (b + c) k (emax f) B);
+  grid = mul-on f q r Q b c x w (X .grid) W (le-without (b + c) k (emax f) B);
   is = ap (λ (z : Float). mul f z w) (X .is) ∙ mul-scale f q r Q b c x w (X .grid) W k B;
 }
 
@@ -81,7 +89,7 @@ twin-mul-right f k q b r c x x' w Q B X W =
 -- a product with a weight and a sum, rounded once; z is on the product's grid, where `twin-weaken` takes it
 pub twin-fma : (f : Format) (k r c q b d e : ℕ) (w x x' z z' : Float) → r + q ≤ low f → c + b ≤ e → d ≤ e → suc e + k ≤ emax f → On r c w → Twin k q b x x' → Twin k (r + q) d z z' → Twin k (r + q) (suc e) (fma f w x z) (fma f w x' z')
 twin-fma f k r c q b d e w x x' z z' Q CB D E W X Z = record {
-  grid = fma-on f r q Q c b d w x z W (X .grid) (Z .grid) e CB D (less (suc e) k (emax f) E);
+  grid = fma-on f r q Q c b d w x z W (X .grid) (Z .grid) e CB D (le-without (suc e) k (emax f) E);
   is = (λ i. fma f w (X .is i) (Z .is i)) ∙ fma-scale f r q Q c b d w x z W (X .grid) (Z .grid) e k CB D E;
 }
 

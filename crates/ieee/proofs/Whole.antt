@@ -1,5 +1,5 @@
 -- The ways from a fraction to a whole number see only its value, stay at a whole number, and are monotone; and so do and are `floor`, `ceil` and `roundAway`.
--- Assumes nothing.
+-- `floor-le` and `ceil-le` stand beside `round-away-le` for readers: nothing here needs them. Assumes nothing.
 use mathlib.Core.Path.{_≡_, refl, sym, ap, _∙_, subst}
 use Prim.Native.Nat.{ℕ, zero, suc, _+_, _*_, _/_, _≤_, _<_}
 use native.Mathlib.Nat.{le-trans, le-of-eq, le-antisymm, lt-of-lt-of-le, mul-one, zero-mul, suc-mul, zero-lt-suc, mul-pos, mul-comm, mul-left-comm, mul-right-comm, mul-mul-mul-comm, mul-le-mul-right, le-of-mul-le-mul-right, lt-of-mul-lt-mul-right, add-mul, div-one, div-add-mod', mod-lt}

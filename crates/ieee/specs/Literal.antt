@@ -17,6 +17,14 @@ turn32 = ofBits binary32 0x43b4_0000
 abbrev pub hundred32 : Float
 hundred32 = ofBits binary32 0x42c8_0000
 
+-- the f32 nearest to 0.0001
+abbrev pub tenThousandth32 : Float
+tenThousandth32 = ofBits binary32 0x38d1_b717
+
+-- 1,048,576: the limit of shape and repeater numbers
+abbrev pub numberLimit : Float
+numberLimit = ofBits binary32 0x4980_0000
+
 -- 2 ^ -23, `f32::EPSILON`
 abbrev pub epsilon32 : Float
 epsilon32 = ofBits binary32 0x3400_0000

@@ -10,7 +10,7 @@ use borrow.Author.Tests.{ltb-false}
 use Rattle.command.specs.declared.Refusal.{Refusal}
 use Rattle.command.specs.declared.Refusal.the-variants.{Empty, TooMany, Unlisted, BrokenNesting, NotMergeable, OutOfBounds}
 use Rattle.item.specs.declared.ItemRow.{ItemRow}
-use Rattle.item.specs.Rows.{itemRow, isVisible, isSource, isListed}
+use Rattle.item.specs.Rows.{itemRow, isListed}
 use Rattle.nest.specs.Lists.{rowsFrom, eachRow, isShallow, isNested}
 use Rattle.merge.specs.declared.Scan.{Scan}
 use Rattle.merge.specs.declared.Scan.the-variants.{Nowhere, At}
@@ -115,11 +115,3 @@ module _ (rows : List ℕ) (n : ℕ) (numbers : List ℕ) (e : decision rows n �
 
   pub joined-source : (i : ℕ) → i < length numbers → isSourceRow (itemRow rows (getD numbers i 0)) ≡ true
   joined-source i h = joined-at i h .source
-
--- a source row is visible
-pub source-visible : (r : ItemRow) → isSourceRow r ≡ true → isVisible r ≡ true
-source-visible r = go (isVisible r)
-  where
-    go : (b : Bool) → ((b && eqb (r .depth) 0) && isSource r) ≡ true → b ≡ true
-    go true e = refl
-    go false e = e

@@ -1,4 +1,5 @@
--- What a merge reads: of the item list the numbers of the joined rows alone, of the rows no entry past the row number, and of a hidden row its kind, flag and depth. Assumes nothing.
+-- What a merge reads: of the item list the numbers of the joined rows alone, of the rows no entry past the row number; of a hidden row its kind, flag and depth, and of a visible
+-- row the mark too, but the place and count only of a source outside any group. Assumes nothing.
 use mathlib.Core.Path.{_≡_, refl, ap, ap₂, _∙_}
 use mathlib.Core.Bool.{true}
 use mathlib.Core.List.{List, [], _∷_, map}
@@ -15,10 +16,11 @@ use Rattle.nest.specs.Lists.{rowsFrom, eachRow}
 use Rattle.nest.proofs.Rows.{row-read}
 use Rattle.nest.proofs.Alike.{Alike, ends, goes}
 use Rattle.merge.specs.Decision.{Ruling, declined, joined, decision}
+use Rattle.merge.specs.Flat.{isSourceRow}
 use Rattle.merge.proofs.Alike.{decision-alike, decision-read}
 use Rattle.join.specs.Merge.{followedBy, drawSources, drawRuling, drawMerge}
 use Rattle.join.specs.Joined.{JoinedRow}
-use Rattle.join.proofs.Joined.{joined-below, joined-source, source-visible}
+use Rattle.join.proofs.Joined.{joined-below, joined-source}
 
 -- ---- the item list
 
@@ -50,9 +52,9 @@ rows-same : (rows rows' numbers : List ℕ) → ((i : ℕ) → i < length number
 rows-same rows rows' [] same = refl
 rows-same rows rows' (m ∷ ms) same = ap₂ _∷_ (same 0 (zero-lt-suc (length ms))) (rows-same rows rows' ms (λ i h. same (suc i) (omega arith)))
 
--- one decision, and the same rows where they are joined
+-- one decision, and the same source rows
 same-merge : (rows rows' : List ℕ) (n : ℕ) (items : List Float) → decision rows n ≡ decision rows' n
-    → ((i : ℕ) → i < n → isVisible (itemRow rows i) ≡ true → itemRow rows i ≡ itemRow rows' i) → drawMerge rows n items ≡ drawMerge rows' n items
+    → ((i : ℕ) → i < n → isSourceRow (itemRow rows i) ≡ true → itemRow rows i ≡ itemRow rows' i) → drawMerge rows n items ≡ drawMerge rows' n items
 unfolding drawMerge drawRuling
 same-merge rows rows' n items e same = go (decision rows n) refl ∙ ap (drawRuling rows' items) e
   where
@@ -61,30 +63,31 @@ same-merge rows rows' n items e same = go (decision rows n) refl ∙ ap (drawRul
     go (joined numbers) f =
         ap (λ (rs : List ItemRow). drawSources rs items)
         (rows-same rows rows' numbers
-        (λ i h. let m : ℕ = getD numbers i 0 in same m (joined-below rows n numbers f i h) (source-visible (itemRow rows m) (joined-source rows n numbers f i h))))
+        (λ i h. let m : ℕ = getD numbers i 0 in same m (joined-below rows n numbers f i h) (joined-source rows n numbers f i h)))
 
 pub merge-read : (n : ℕ) (rows rows' : List ℕ) (items : List Float) → 6 * n ≤ length rows → 6 * n ≤ length rows' → ((j : ℕ) → j < 6 * n → getD rows j 0 ≡ getD rows' j 0)
     → drawMerge rows n items ≡ drawMerge rows' n items
 merge-read n rows rows' items l l' same =
     same-merge rows rows' n items (decision-read n rows rows' l l' same) (λ i h v. row-read rows rows' i (λ j g. same j (omega arith)))
 
--- two rows of one kind, hidden flag and depth, which are the same where they are visible
-pub record SameShown (r q : ItemRow) : Type 0 where
+-- two rows of one kind, hidden flag and depth, of one mark where they are visible, and the same where they are sources outside any group
+pub record SameRead (r q : ItemRow) : Type 0 where
   pub kind : r .kind ≡ q .kind
   pub hidden : r .hidden ≡ q .hidden
   pub depth : r .depth ≡ q .depth
-  pub shown : isVisible r ≡ true → r ≡ q
+  pub mark : isVisible r ≡ true → r .mark ≡ q .mark
+  pub source : isSourceRow r ≡ true → r ≡ q
 
-rows-alike : (rows rows' : List ℕ) (left i : ℕ) → ((j : ℕ) → j < i + left → SameShown (itemRow rows j) (itemRow rows' j)) → Alike (rowsFrom rows i left) (rowsFrom rows' i left)
+rows-alike : (rows rows' : List ℕ) (left i : ℕ) → ((j : ℕ) → j < i + left → SameRead (itemRow rows j) (itemRow rows' j)) → Alike (rowsFrom rows i left) (rowsFrom rows' i left)
 unfolding rowsFrom
 rows-alike rows rows' zero i same = ends
 rows-alike rows rows' (suc left) i same =
     let s = same i (omega arith) in
-    goes (record { kind = s .kind; hidden = s .hidden; depth = s .depth; mark = λ v. ap (λ (r : ItemRow). r .mark) (s .shown v) })
+    goes (record { kind = s .kind; hidden = s .hidden; depth = s .depth; mark = s .mark })
     (rows-alike rows rows' left (i + 1) (λ j h. same j (omega arith)))
 
--- the place, mark and count of a hidden row may be any that keep the rules for one row
-pub merge-hidden : (rows rows' : List ℕ) (n : ℕ) (items : List Float) → length rows ≡ length rows' → ((i : ℕ) → i < n → SameShown (itemRow rows i) (itemRow rows' i))
+-- the place, mark and count of a hidden row, and the place and count of a visible one that is no source outside any group, may be any that keep the rules for one row
+pub merge-rows : (rows rows' : List ℕ) (n : ℕ) (items : List Float) → length rows ≡ length rows' → ((i : ℕ) → i < n → SameRead (itemRow rows i) (itemRow rows' i))
     → eachRow isListed (rowsFrom rows 0 n) ≡ eachRow isListed (rowsFrom rows' 0 n) → drawMerge rows n items ≡ drawMerge rows' n items
-merge-hidden rows rows' n items l same listed =
-    same-merge rows rows' n items (decision-alike rows rows' n l (rows-alike rows rows' n 0 (λ j h. same j (omega arith))) listed) (λ i h. same i h .shown)
+merge-rows rows rows' n items l same listed =
+    same-merge rows rows' n items (decision-alike rows rows' n l (rows-alike rows rows' n 0 (λ j h. same j (omega arith))) listed) (λ i h. same i h .source)

@@ -9,26 +9,20 @@ use lib.ListN.{length, length-append, length-map}
 use Rattle.ieee.specs.Limit.{allWithin}
 use Rattle.ieee.proofs.Bounds.{all-within→bounded, all-bounded→within, all-bounded-append}
 use Rattle.command.specs.declared.PathCommand.{PathCommand}
-use Rattle.command.specs.Commands.{numbersOf}
+use Rattle.command.specs.Commands.{numbersOf, commandLimit}
 use Rattle.command.specs.Outcomes.{Outcome, refused, drawn}
-use Rattle.command.specs.Enlarged.{commandLimit}
 use Rattle.command.proofs.Passes.{numbers-append}
 use Rattle.command.proofs.Enlarged.{limit-value}
 use Rattle.item.specs.declared.ItemRow.{ItemRow}
 use Rattle.item.specs.Rows.{itemRow}
 use Rattle.draw.specs.Items.{drawSource}
 use Rattle.draw.proofs.Sources.{source-few}
-use Rattle.draw.proofs.Sound.{SoundOutcome, source-sound}
+use Rattle.draw.proofs.Sound.{SoundOutcome, refusal-sound, source-sound}
 use Rattle.merge.specs.Decision.{Ruling, declined, joined, decision}
 use Rattle.join.specs.Merge.{followedBy, drawSources, drawRuling, drawMerge}
 use Rattle.join.proofs.Joined.{joined-few}
 
 -- ---- the numbers
-
-nothing-sound : allWithin commandLimit [] ≡ true
-unfolding allWithin
-nothing-sound = refl
-
 within-append : (xs ys : List Float) → allWithin commandLimit xs ≡ true → allWithin commandLimit ys ≡ true → allWithin commandLimit (xs ++ ys) ≡ true
 within-append xs ys X Y =
     let n : ℕ = 4194304 in
@@ -37,14 +31,14 @@ within-append xs ys X Y =
 
 followed-sound : (o p : Outcome) → SoundOutcome o → SoundOutcome p → SoundOutcome (followedBy o p)
 unfolding followedBy
-followed-sound (refused r) (refused s) O P = nothing-sound
-followed-sound (refused r) (drawn ds) O P = nothing-sound
-followed-sound (drawn cs) (refused r) O P = nothing-sound
+followed-sound (refused r) (refused s) O P = refusal-sound
+followed-sound (refused r) (drawn ds) O P = refusal-sound
+followed-sound (drawn cs) (refused r) O P = refusal-sound
 followed-sound (drawn cs) (drawn ds) O P = rw (numbers-append cs ds) (within-append (numbersOf cs) (numbersOf ds) O P)
 
 sources-sound : (rs : List ItemRow) (items : List Float) → SoundOutcome (drawSources rs items)
 unfolding drawSources
-sources-sound [] items = nothing-sound
+sources-sound [] items = refusal-sound
 sources-sound (r ∷ rs) items = followed-sound (drawSource r items) (drawSources rs items) (source-sound r items) (sources-sound rs items)
 
 pub draw-merge-sound : (rows : List ℕ) (n : ℕ) (items : List Float) → SoundOutcome (drawMerge rows n items)
@@ -52,14 +46,13 @@ unfolding drawMerge drawRuling
 draw-merge-sound rows n items = go (decision rows n)
   where
     go : (d : Ruling) → SoundOutcome (drawRuling rows items d)
-    go (declined r) = nothing-sound
+    go (declined r) = refusal-sound
     go (joined numbers) = sources-sound (map (itemRow rows) numbers) items
 
 pub drawn-merge-sound : (rows : List ℕ) (n : ℕ) (items : List Float) (cs : List PathCommand) → drawMerge rows n items ≡ drawn cs → allWithin commandLimit (numbersOf cs) ≡ true
 drawn-merge-sound rows n items cs e = subst SoundOutcome e (draw-merge-sound rows n items)
 
 -- ---- the length: at most 255 sources of at most 1,026 commands
-
 followed-few : (o p : Outcome) (a b : ℕ) (es : List PathCommand) → ((cs : List PathCommand) → o ≡ drawn cs → length cs ≤ a) → ((ds : List PathCommand) → p ≡ drawn ds → length ds ≤ b)
     → followedBy o p ≡ drawn es → length es ≤ a + b
 unfolding followedBy

@@ -11,9 +11,9 @@ use Rattle.ieee.specs.Limit.{allWithin}
 use Rattle.ieee.specs.Grid.{scale}
 use Rattle.command.specs.declared.PathCommand.{PathCommand}
 use Rattle.command.specs.declared.Refusal.the-variants.{TooMany, OutOfBounds}
-use Rattle.command.specs.Commands.{codesOf, numbersOf}
+use Rattle.command.specs.Commands.{codesOf, numbersOf, commandLimit}
 use Rattle.command.specs.Outcomes.{Outcome, refused, drawn, numberOf}
-use Rattle.command.specs.Enlarged.{AllOn, Twins, commandLimit}
+use Rattle.command.specs.Enlarged.{AllOn, Twins}
 use Rattle.command.proofs.Passes.{codes-length}
 use Rattle.command.proofs.Enlarged.{grid-within, twins-codes, twins-numbers, twins-length, twins-grid}
 use Rattle.judge.specs.declared.Found.{Found}

@@ -13,10 +13,10 @@ use borrow.Author.Tests.{le-ltb}
 use Rattle.ieee.specs.Limit.{within, allWithin}
 use Rattle.command.specs.declared.PathCommand.{PathCommand}
 use Rattle.command.specs.declared.PathCommand.the-variants.{Move, Line, Cubic, Close, Quad}
-use Rattle.command.specs.Commands.{codeOf, coordinatesOf, codesOf, numbersOf}
+use Rattle.command.specs.Commands.{codeOf, coordinatesOf, codesOf, numbersOf, commandLimit}
 use Rattle.command.specs.declared.Refusal.the-variants.{TooMany, OutOfBounds}
-use Rattle.command.specs.Enlarged.{commandLimit}
 use Rattle.command.specs.Outcomes.{Outcome, refused, drawn, commandsOf}
+use Rattle.command.proofs.Passes.{codes-length}
 use Rattle.judge.specs.declared.Judged.the-variants.{Sound}
 use Rattle.judge.specs.Lists.{sizeOfCode, commandAt, before, readList, judgeList, judgedOf}
 use Rattle.judge.proofs.Ways.{left-over, fault-sound, sound-splits}
@@ -75,6 +75,11 @@ commands-read [] h = unfold readList in refl
 commands-read (c ∷ cs) h =
     let s = and-eq-true-iff (allWithin commandLimit (coordinatesOf c)) (allWithin commandLimit (numbersOf cs)) .0 (sym (within-append commandLimit (coordinatesOf c) (numbersOf cs)) ∙ h) in
     read-command c (codesOf cs) (numbersOf cs) (s .0) ∙ ap (before c) (commands-read cs (s .1)) ∙ unfold before in refl
+
+-- commands that are few enough and within the limit are accepted as themselves
+pub list-judged : (cs : List PathCommand) → length cs ≤ 262144 → allWithin commandLimit (numbersOf cs) ≡ true → judgeList (codesOf cs) (numbersOf cs) ≡ drawn cs
+unfolding judgeList
+list-judged cs few within = rw (codes-length cs, le-ltb 262144 (length cs) few) (commands-read cs within)
 
 -- the command read at the start of v has the code c, and its numbers are those of v
 code-at : (c : ℕ) (v : List Float) → c ≤ 4 → codeOf (commandAt c v) ≡ c

@@ -16,7 +16,7 @@ use Rattle.ieee.specs.Limit.{allWithin}
 use Rattle.command.specs.declared.PathCommand.{PathCommand}
 use Rattle.command.specs.declared.Refusal.{Refusal}
 use Rattle.command.specs.declared.Refusal.the-variants.{TooMany, OutOfRange, Unlisted, OutOfBounds}
-use Rattle.command.specs.Enlarged.{commandLimit}
+use Rattle.command.specs.Commands.{commandLimit}
 use Rattle.command.specs.Outcomes.{Outcome, refused, drawn, numberOf}
 use Rattle.judge.specs.declared.Judged.{Judged}
 use Rattle.judge.specs.declared.Judged.the-variants.{Fault, Sound}

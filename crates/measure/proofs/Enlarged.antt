@@ -8,7 +8,7 @@ use native.Mathlib.Omega.{arith}
 use lib.ListN.{take}
 use lib.Ieee.{Float, binary32}
 use Rattle.ieee.specs.Grid.{scale, On, Twin}
-use Rattle.ieee.proofs.Twins.{twin-of, twin-add-absorb}
+use Rattle.ieee.proofs.Twins.{zero-twin, twin-of, twin-add-absorb}
 use Rattle.command.specs.declared.PathCommand.{PathCommand}
 use Rattle.command.specs.declared.PathCommand.the-variants.{Move, Line, Cubic, Close, Quad}
 use Rattle.command.specs.Commands.{coordinatesOf, numbersOf}
@@ -16,7 +16,7 @@ use Rattle.command.specs.Enlarged.{enlarged, AllOn, CommandTwin, Twins}
 use Rattle.command.proofs.Enlarged.{all-split, twins-take}
 use Rattle.curve.specs.declared.Point.{Point}
 use Rattle.curve.specs.Curve.{distance, quadLength, cubicLength}
-use Rattle.curve.proofs.Enlarged.{PointTwin, zero-twin, distance-twin, quad-twin, cubic-twin}
+use Rattle.curve.proofs.Enlarged.{PointTwin, distance-twin, quad-twin, cubic-twin}
 use Rattle.measure.specs.declared.Place.{Place}
 use Rattle.measure.specs.declared.Place.the-variants.{Nowhere, At}
 use Rattle.measure.specs.declared.Pen.{Pen}

@@ -3,7 +3,7 @@
 use mathlib.Core.Path.{_≡_, refl, ap, _∙_, subst}
 use mathlib.Core.Bool.{true}
 use mathlib.Core.List.{List, [], _∷_, _++_}
-use Prim.Native.Nat.{ℕ, zero, suc, _+_, _^_, _≤_, _<_}
+use Prim.Native.Nat.{ℕ, zero, suc, _^_, _≤_, _<_}
 use native.Mathlib.Nat.{le-refl, le-trans, not-suc-le-zero, le-of-suc-le-suc}
 use lib.Dec.{T, lit≤, lit<}
 use lib.ListN.{length, getD, take}
@@ -19,8 +19,7 @@ use Rattle.ieee.proofs.Monotone.{add-ge, add-le-right}
 use Rattle.ieee.proofs.Bounds.{reach-absorb, zero-bounded, bounded-finite, bounded-number, bounded-weaken, add-bounded, all-bounded-split}
 use Rattle.command.specs.declared.PathCommand.{PathCommand}
 use Rattle.command.specs.declared.PathCommand.the-variants.{Move, Line, Cubic, Close, Quad}
-use Rattle.command.specs.Commands.{coordinatesOf, numbersOf}
-use Rattle.command.specs.Enlarged.{commandLimit}
+use Rattle.command.specs.Commands.{coordinatesOf, numbersOf, commandLimit}
 use Rattle.command.proofs.Bounds.{bounded-take, bounded-command, within→commands}
 use Rattle.curve.specs.declared.Point.{Point}
 use Rattle.curve.specs.Curve.{distance, quadLengthAfter, cubicLengthAfter, quadLength, cubicLength}

@@ -5,8 +5,8 @@ ghost use mathlib.Core.Path.{_≡_};
 ghost use mathlib.Core.Bool.{true};
 ghost use Prim.Native.Nat.{_+_, _-_, _*_, _≤_, _<_};
 ghost use lib.ListN.{length};
-ghost use Rattle.item.specs.Rows.{itemRow, isListed};
-ghost use Rattle.nest.specs.Lists.{rowsFrom, eachRow, isShallow, isNested};
+ghost use Rattle.item.specs.Rows.{itemRow};
+ghost use Rattle.nest.specs.Lists.{rowsFrom};
 ghost use Rattle.merge.specs.Flat.{isTop, isUnionRow, isSourceRow, sourceCount, precedes, follows, cleanAfter, scanFrom, lateFrom};
 ghost use Rattle.merge.specs.Decision.{decision, ruling, said, Settled};
 

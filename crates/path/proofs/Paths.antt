@@ -1,4 +1,4 @@
--- Laws of the pathCommands: its length, and the command at each place. Assumes nothing.
+-- Laws of `pathCommands`: its length, and the command at each place. Assumes nothing.
 use mathlib.Core.Path.{_≡_, refl, ap, ap₂, _∙_}
 use mathlib.Core.Bool.{Bool, true, false, cond}
 use mathlib.Core.List.{List, [], _∷_, _++_}

@@ -13,8 +13,7 @@ use lib.Seq.{getD-drop}
 use Rattle.ieee.specs.Limit.{allWithin, Bounded, AllBounded}
 use Rattle.ieee.proofs.Bounds.{Reach, reach-pow, bounded-weaken, add-bounded, all-bounded-append, all-bounded-at, all-within→bounded}
 use Rattle.command.specs.declared.PathCommand.the-variants.{Line, Cubic, Close}
-use Rattle.command.specs.Commands.{coordinatesOf, numbersOf}
-use Rattle.command.specs.Enlarged.{commandLimit}
+use Rattle.command.specs.Commands.{coordinatesOf, numbersOf, commandLimit}
 use Rattle.command.proofs.Bounds.{bounded-append, commands→within}
 use Rattle.path.specs.declared.BezierVertex.{BezierVertex}
 use Rattle.path.specs.Path.{vertexAt, verticesOf, isLine, outX, outY, inX, inY, bezierSegment, bezierSegments, bezierPath, pathCommands}

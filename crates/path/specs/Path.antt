@@ -2,9 +2,10 @@
 use Prim.Native.Nat.{ℕ, zero, suc, _+_, _*_, _≤_, _<_}
 use mathlib.Core.Bool.{Bool, true, false, cond, _&&_}
 use mathlib.Core.List.{List, [], _∷_, _++_}
-use lib.Ieee.{Float, nan, add, sub, ofBits, binary32}
+use lib.Ieee.{Float, nan, add, sub, binary32}
 use lib.ListN.{length, getD, drop}
 use lib.Dec.{eqb}
+use Rattle.ieee.specs.Literal.{tenThousandth32}
 use Rattle.ieee.specs.Limit.{within}
 use Rattle.command.specs.declared.PathCommand.{PathCommand}
 use Rattle.command.specs.declared.PathCommand.the-variants.{Move, Line, Cubic, Close}
@@ -28,7 +29,7 @@ verticesOf (suc n) v = vertexAt v 0 ∷ verticesOf n (drop 6 v)
 
 -- the f32 nearest to 1e-4, `EPSILON` of `approx_eq_vec2`
 abbrev pub linearTolerance : Float
-linearTolerance = ofBits binary32 0x38d1b717
+linearTolerance = tenThousandth32
 
 -- within 1e-4 of each other, equality included
 abbrev pub approxEq : Float → Float → Bool

@@ -2,28 +2,18 @@
 -- Assumes nothing.
 use mathlib.Core.Path.{_≡_, refl, sym, ap, _∙_}
 use mathlib.Core.List.{List, [], _∷_, _++_, map}
-use Prim.Native.Nat.{ℕ, zero, suc, _+_, _-_, _*_, _^_, _≤_, _<_, zero-le}
+use Prim.Native.Nat.{ℕ, zero, suc, _+_, _*_, _≤_, zero-le}
 use native.Mathlib.Omega.{arith}
-use lib.Dec.{T}
-use lib.Ieee.{Float, binary32, fits, toBits}
-use lib.Ieee.Bits.{toBits-lt}
+use lib.Ieee.{Float, binary32, toBits}
 use lib.ListN.{length, take, drop, length-append, length-map}
 use lib.Seq.{take-append-seam, drop-append-seam}
 use Rattle.command.specs.declared.PathCommand.{PathCommand}
 use Rattle.command.specs.Commands.{codeOf, coordinatesOf, codesOf, numbersOf}
-use Rattle.command.specs.Outcomes.{commandsOf}
-use Rattle.command.proofs.Passes.{codes-length}
-use Rattle.judge.specs.declared.Judged.the-variants.{Sound}
-use Rattle.judge.specs.Lists.{sizeOfCode, readList, judgedOf, placeOf}
+use Rattle.judge.specs.Lists.{sizeOfCode, placeOf}
 use Rattle.judge.proofs.Ways.{size-most}
-use Rattle.judge.proofs.Lists.{size-of, sound-written}
-use Rattle.plate_print.specs.Lines.{column, readAfter, columns, line, numbersLine, commandLines, answerText, listLines, listText}
-use Rattle.plate_print.proofs.Columns.{column-length, read-column}
-
--- ---- nothing is cut: the bits of every f32 fit 11 columns
-
-pub bits-whole : (x : Float) → T (fits binary32 x) → readAfter 0 (column 11 (toBits binary32 x)) ≡ toBits binary32 x
-bits-whole x f = let h : toBits binary32 x < 2 ^ 32 = toBits-lt binary32 x f in read-column 11 (toBits binary32 x) (omega arith)
+use Rattle.judge.proofs.Lists.{size-of}
+use Rattle.plate_print.specs.Lines.{column, columns, line, numbersLine, commandLines, answerText, listLines, listText}
+use Rattle.plate_print.proofs.Columns.{column-length}
 
 -- ---- how long
 
@@ -92,16 +82,3 @@ unfolding listText
 list-text-length codes v total =
     length-append (listLines codes v) (numbersLine 9 (total ∷ []))
     ∙ ap (λ (k : ℕ). length (listLines codes v) + k) (numbers-line-length 9 (total ∷ []))
-
-pub answer-most : (cs : List PathCommand) (total : Float) → length (answerText cs total) ≤ 69 * length cs + 14
-answer-most cs total =
-    rw (← list-answer cs total, list-text-length (codesOf cs) (numbersOf cs) total)
-    (omega (arith, list-most (codesOf cs) (numbersOf cs), codes-length cs))
-
--- a sound list prints the commands that are read in it
-pub sound-answer : (codes : List ℕ) (v : List Float) (total : Float) → judgedOf (readList codes v) ≡ Sound
-    → listText codes v total ≡ answerText (commandsOf (readList codes v)) total
-sound-answer codes v total e =
-    let cs = commandsOf (readList codes v) in
-    let w = sound-written codes v e in
-    ap (λ (l : List ℕ). listText l v total) (sym (w .0)) ∙ ap (λ (u : List Float). listText (codesOf cs) u total) (sym (w .1)) ∙ list-answer cs total

@@ -1,15 +1,14 @@
 -- What each way out of a function of this crate owes, as the code meets it: a premise for each test and for each call's result.
 -- Assumes nothing.
 use mathlib.Core.Path.{_≡_, refl, sym, ap, _∙_}
-use mathlib.Core.Bool.{true, false, not}
+use mathlib.Core.Bool.{true}
 use mathlib.Core.List.{List, [], _∷_, _++_, map, append-nil}
 use Prim.Native.Nat.{ℕ, zero, suc, _+_, _-_, _*_, _/_, _%_, _^_, _≤_, _<_}
 use native.Mathlib.Numerals.{add-one}
 use native.Mathlib.Omega.{arith}
 use mir.Val.{Fits}
 use mir.Syntax.{w64}
-use lib.Dec.{T}
-use lib.Ieee.{Float, binary32, nan, ne, isNan, toBits}
+use lib.Ieee.{Float, binary32, nan, ne, toBits}
 use lib.ListN.{length, set, getD, take, drop, length-set, length-append, length-map, drop-of-length-le}
 use lib.Seq.{sets, drop-cons, drop-drop, set-comm, length-sets}
 use borrow.Author.Tests.{eq-eqb, ne-eqb}
@@ -27,9 +26,6 @@ use Rattle.plate_print.proofs.Lines.{columns-length, line-length, numbe
 pub nan-bits : (x : Float) → ne x x ≡ true → 0x7fc0_0000 ≡ toBits binary32 x
 nan-bits x h = sym (ap (toBits binary32) (is-nan x h) ∙ unfold toBits in refl)
 
-pub number-bits : (x : Float) → ne x x ≡ false → T (not (isNan x))
-number-bits = is-number
-
 -- ---- digit, leading_digit
 pub digit-is : (n : ℕ) → 48 + n % 10 ≡ digitOf n
 unfolding digitOf
@@ -43,7 +39,7 @@ pub leading-some : (n b : ℕ) → (n ≡ 0 → ⊥) → b ≡ digitOf n → b �
 unfolding leadingDigit
 leading-some n b e d = rw (ne-eqb n 0 e) d
 
-pub ruleset digits = (nan-bits, number-bits, digit-is, leading-blank, leading-some)
+pub ruleset digits = (nan-bits, is-number, digit-is, leading-blank, leading-some)
 
 -- ---- put_leading
 -- a store past a run of stores may come before it

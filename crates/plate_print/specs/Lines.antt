@@ -1,5 +1,5 @@
 -- The text that the program `plate` prints, as a list of bytes. Definitions only.
-use Prim.Native.Nat.{ℕ, zero, suc, _+_, _-_, _*_, _/_, _%_}
+use Prim.Native.Nat.{ℕ, zero, suc, _+_, _/_, _%_}
 use mathlib.Core.Bool.{cond}
 use mathlib.Core.List.{List, [], _∷_, _++_, map}
 use lib.Dec.{eqb}
@@ -30,11 +30,6 @@ leading (suc w) n = leading w (n / 10) ++ leadingDigit n ∷ []
 unfoldable pub column : ℕ → ℕ → List ℕ
 column zero n = []
 column (suc w) n = leading w (n / 10) ++ digitOf n ∷ []
-
--- the number that a column's bytes say, read on after the number n: a blank counts as 0, since 32 - 48 is 0
-unfoldable pub readAfter : ℕ → List ℕ → ℕ
-readAfter n [] = n
-readAfter n (b ∷ bs) = readAfter (n * 10 + (b - 48)) bs
 
 -- ---- lines
 

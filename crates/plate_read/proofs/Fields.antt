@@ -1,7 +1,7 @@
 -- What each way out of the functions on a field owes, as the code meets it: a premise for each test and for each call's result.
 -- Assumes nothing.
 use mathlib.Core.Path.{_≡_, refl, sym, ap, _∙_}
-use mathlib.Core.Bool.{Bool, true, false, cond, _&&_, true≢false}
+use mathlib.Core.Bool.{Bool, true, false, cond, _&&_, true≢false, and-eq-true-iff}
 use mathlib.Core.List.{List, [], _∷_}
 use Prim.Native.Nat.{ℕ, suc, _+_, _-_, _*_, _%_, _^_, _≤_, _<_}
 use native.Mathlib.Nat.{le-refl}
@@ -16,10 +16,6 @@ use borrow.Author.Tests.{eq-eqb, ne-eqb, lt-ltb, le-leb, lt-leb, leb-true}
 use Rattle.ieee.specs.Pattern.{infinity}
 use Rattle.plate_read.specs.Text.{isDigit, allDigits, isNumeral, valueAfter, unblanked, largestPattern, fieldValue, isField}
 use Rattle.plate_read.specs.Fields.{noPattern, patternAfter, fieldPattern}
-
-pub both : (a b : Bool) → (a && b) ≡ true → (a ≡ true) × (b ≡ true)
-both true b e = (refl, e)
-both false b e = absurd (true≢false (sym e))
 
 -- ---- blanks
 module _ (b : ℕ) (bs : List ℕ) where
@@ -70,7 +66,7 @@ module _ (b : ℕ) where
 
   digit-between : isDigit b ≡ true → (48 ≤ b) × (b ≤ 57)
   unfolding isDigit
-  digit-between e = let s = both (leb 48 b) (leb b 57) e in (leb-true 48 b (s .0), leb-true b 57 (s .1))
+  digit-between e = let s = and-eq-true-iff (leb 48 b) (leb b 57) .0 e in (leb-true 48 b (s .0), leb-true b 57 (s .1))
 
 pub ruleset digit = (digit-low, digit-high)
 
@@ -189,8 +185,8 @@ module _ (field : List ℕ) (e : isField field ≡ true) where
   unfolding isField
   field-most =
       leb-true (fieldValue field) largestPattern
-      (both (isNumeral (unblanked field)) (leb (fieldValue field) largestPattern)
-      (both (eqb (length field) 11) (isNumeral (unblanked field) && leb (fieldValue field) largestPattern) e .1) .1)
+      (and-eq-true-iff (isNumeral (unblanked field)) (leb (fieldValue field) largestPattern) .0
+      (and-eq-true-iff (eqb (length field) 11) (isNumeral (unblanked field) && leb (fieldValue field) largestPattern) .0 e .1) .1)
 
   pub field-pattern : fieldPattern field ≡ fieldValue field
   unfolding fieldPattern

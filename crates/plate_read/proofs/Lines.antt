@@ -1,6 +1,6 @@
 -- Laws of lines and of texts, and what each way out of the functions that check them owes, as the code meets it. Assumes nothing.
 use mathlib.Core.Path.{_≡_, refl, sym, ap, _∙_}
-use mathlib.Core.Bool.{Bool, true, false, true≢false}
+use mathlib.Core.Bool.{Bool, true, false, true≢false, and-eq-true-iff}
 use mathlib.Core.List.{List, [], _∷_, _++_}
 use Prim.Native.Nat.{ℕ, zero, suc, _+_, _-_, _*_, _/_, _≤_, _<_}
 use native.Mathlib.Nat.{add-zero, zero-add, add-sub-cancel-left}
@@ -14,7 +14,7 @@ use Rattle.plate_read.specs.declared.Reading.{Reading}
 use Rattle.plate_read.specs.declared.Reading.the-variants.{Fault, Sound}
 use Rattle.plate_read.specs.Text.{fieldValue, isField, lineForm, lineValues, Content, faulty, given, before, readLines, readText, readingOf}
 use Rattle.plate_read.specs.Fields.{fieldPattern}
-use Rattle.plate_read.proofs.Fields.{both, field-most, field-pattern, pattern-none, field-good, field-bad}
+use Rattle.plate_read.proofs.Fields.{field-most, field-pattern, pattern-none, field-good, field-bad}
 
 -- ---- a line
 -- bytes that are too few for a field are none
@@ -44,11 +44,11 @@ module _ (n : ℕ) (t : List ℕ) where
 
   pub form-field : lineForm (suc n) t ≡ true → isField (take 11 t) ≡ true
   unfolding lineForm
-  form-field e = both (isField (take 11 t)) (lineForm n (drop 11 t)) e .0
+  form-field e = and-eq-true-iff (isField (take 11 t)) (lineForm n (drop 11 t)) .0 e .0
 
   pub form-rest : lineForm (suc n) t ≡ true → lineForm n (drop 11 t) ≡ true
   unfolding lineForm
-  form-rest e = both (isField (take 11 t)) (lineForm n (drop 11 t)) e .1
+  form-rest e = and-eq-true-iff (isField (take 11 t)) (lineForm n (drop 11 t)) .0 e .1
 
 pub form-newline : (t : List ℕ) → lineForm 0 t ≡ eqb (getD t 0 0) 10
 unfolding lineForm

@@ -1,5 +1,5 @@
 -- Laws of what a text gives: how many patterns there are, and that the first 17,165 bytes settle it. Assumes nothing.
-use mathlib.Core.Path.{_≡_, refl, sym, ap, _∙_, subst}
+use mathlib.Core.Path.{_≡_, refl, sym, ap, _∙_}
 use mathlib.Core.Bool.{Bool, true, false, cond}
 use mathlib.Core.List.{List, [], _∷_}
 use Prim.Native.Nat.{ℕ, zero, suc, _+_, _*_, _/_, _≤_, zero-le}
@@ -69,10 +69,6 @@ text-sized t = go (lineForm 1 t) refl
     go : (b : Bool) → lineForm 1 t ≡ b → Sized (cond b (readLines flag 256 (drop 12 t)) (faulty Unlisted))
     go true e = whole-sized flag (readLines flag 256 (drop 12 t)) (field-most (take 11 t) (form-field 0 t e)) (lines-whole flag 256 (drop 12 t))
     go false e = tt
-
-pub text-counts : (t : List ℕ) (flag : ℕ) (ps : List ℕ) → readText t ≡ given flag ps
-    → (length ps ≤ 1536) × (length ps ≡ 6 * (length ps / 6)) × (flag ≤ 4294967295)
-text-counts t flag ps e = subst Sized e (text-sized t)
 
 numbers-length : (flag : ℕ) (ps : List ℕ) → length (numbersGiven (given flag ps)) ≡ length ps
 unfolding numbersGiven

@@ -1,34 +1,32 @@
 -- What each way out of a function of this crate owes, as the code meets it: a premise for each test and for each call's result.
 -- Assumes nothing.
 use mathlib.Core.Path.{_≡_, refl, sym, ap, ap₂, _∙_, subst}
-use mathlib.Core.Bool.{Bool, true, false, cond}
+use mathlib.Core.Bool.{true}
 use mathlib.Core.List.{List, [], _∷_, map}
-use Prim.Native.Nat.{ℕ, _+_, _-_, _*_, _/_, _≤_, _<_}
+use Prim.Native.Nat.{ℕ, _+_, _*_, _/_, _≤_, _<_}
 use native.Mathlib.Omega.{arith}
-use lib.Dec.{eqb, ltb}
 use lib.Ieee.{Float, ofBits, binary32}
-use lib.ListN.{length, take, drop, length-append, length-take}
-use lib.Seq.{take-append-seam}
-use borrow.Author.Tests.{le-ltb, le-leb, eqb-false}
+use lib.ListN.{length, take, drop, length-append}
+use lib.Seq.{take-append-seam, length-take-le}
+use borrow.Author.Tests.{le-leb}
 use Rattle.ieee.specs.Limit.{allWithin}
 use Rattle.command.specs.declared.PathCommand.{PathCommand}
 use Rattle.command.specs.declared.Refusal.{Refusal}
 use Rattle.command.specs.declared.Refusal.the-variants.{Empty, TooMany, OutOfRange, Unlisted, Unsupported, BrokenNesting, NotMergeable, TooShort, NoSuchCopy, NotFinite, BufferTooSmall, OutOfBounds}
 use Rattle.command.specs.declared.Drawn.{Drawn}
 use Rattle.command.specs.declared.Drawn.the-variants.{Refused as NotDrawn, Written}
-use Rattle.command.specs.Commands.{codesOf, numbersOf, onto}
-use Rattle.command.specs.Enlarged.{commandLimit}
+use Rattle.command.specs.Commands.{codesOf, numbersOf, onto, commandLimit}
 use Rattle.command.specs.Refusals.{refusalNumber}
 use Rattle.command.specs.Outcomes.{Outcome, refused, drawn, numberOf, commandsOf, fitted, Filled, drawnNumber, drawnCodes, drawnNumbers}
 use Rattle.command.proofs.Passes.{codes-length}
 use Rattle.path.specs.Path.{pathCommands}
 use Rattle.path.proofs.Counts.{path-codes, path-numbers}
-use Rattle.draw.specs.Checks.{coordinateLimit}
 use Rattle.draw.specs.Paths.{drawPath}
+use Rattle.draw.proofs.Sources.{drawn-path}
 use Rattle.draw.proofs.Sound.{drawn-path-sound}
 use Rattle.judge.specs.declared.Judged.the-variants.{Sound}
 use Rattle.judge.specs.Lists.{readList, judgeList, judgedOf, placeOf}
-use Rattle.judge.proofs.Lists.{commands-read, sound-written, sound-read}
+use Rattle.judge.proofs.Lists.{list-judged, sound-written, sound-read}
 use Rattle.measure.specs.Length.{pathLength}
 use Rattle.length.specs.declared.Measured.{Measured}
 use Rattle.length.specs.declared.Measured.the-variants.{Refused, Length}
@@ -97,31 +95,6 @@ module _ (codes : List ℕ) (numbers : List Float) (m : Measured) (m-is : m ≡ 
 pub ruleset measuring = (measured-refusal-count, measured-refusal-put, measured-there, measured-count, measured-put)
 
 -- ---- print_drawn
-abbrev IsDrawn : Outcome → Type 0
-IsDrawn (refused r) = ⊥
-IsDrawn (drawn cs) = Unit {0}
-
-not-drawn : (r : Refusal) {cs : List PathCommand} {A : Type 0} → refused r ≡ drawn cs → A
-not-drawn r e = absurd (subst IsDrawn (sym e) tt)
-
-some : (n : ℕ) → (n ≡ 0 → ⊥) → 0 < n
-some n h = omega arith
-
--- an answer passed every check
-path-splits : (closed : ℕ) (v : List Float) (count : ℕ) (cs : List PathCommand) → drawPath closed v count ≡ drawn cs → (0 < count) × (pathCommands closed v count ≡ cs)
-unfolding drawPath
-path-splits closed v count cs e = go (eqb count 0) (ltb 1024 count) (ltb 1 closed) (ltb (length v) (6 * count)) (allWithin coordinateLimit (take (6 * count) v)) (eqb-false count 0) e
-  where
-    go : (a b c d t : Bool) → (a ≡ false → count ≡ 0 → ⊥)
-        → cond a (refused Empty) (cond b (refused TooMany) (cond c (refused Unlisted) (cond d (refused OutOfBounds) (cond t (drawn (pathCommands closed v count)) (refused OutOfRange))))) ≡ drawn cs
-        → (0 < count) × (pathCommands closed v count ≡ cs)
-    go true b c d t z e = not-drawn Empty e
-    go false true c d t z e = not-drawn TooMany e
-    go false false true d t z e = not-drawn Unlisted e
-    go false false false true t z e = not-drawn OutOfBounds e
-    go false false false false true z e = (let n = z refl in some count n, ap commandsOf e)
-    go false false false false false z e = not-drawn OutOfRange e
-
 -- a path of at most 256 vertices fits the program's buffers
 path-fits : (closed : ℕ) (v : List Float) (count : ℕ) → count ≤ 256 → fitted 258 1538 (drawPath closed v count) ≡ drawPath closed v count
 unfolding fitted
@@ -130,9 +103,9 @@ path-fits closed v count few = go (drawPath closed v count) refl
     go : (o : Outcome) → drawPath closed v count ≡ o → fitted 258 1538 o ≡ o
     go (refused r) e = refl
     go (drawn cs) e =
-        let s = path-splits closed v count cs e in
-        let a : length (codesOf cs) ≤ 258 = rw (← s .1) (omega (arith, path-codes closed v count (s .0))) in
-        let b : length (numbersOf cs) ≤ 1538 = rw (← s .1) (omega (arith, path-numbers closed v count (s .0))) in
+        let s = drawn-path closed v count cs e in
+        let a : length (codesOf cs) ≤ 258 = rw (s .2) (omega (arith, path-codes closed v count (s .0))) in
+        let b : length (numbersOf cs) ≤ 1538 = rw (s .2) (omega (arith, path-numbers closed v count (s .0))) in
         rw (le-leb (length (codesOf cs)) 258 a, le-leb (length (numbersOf cs)) 1538 b)
 
 -- no refusal has the number 0
@@ -161,10 +134,6 @@ answered (refused r) e = let h = number-some r in absurd (omega arith)
 answered (drawn cs) e = refl
 
 -- sound commands, measured and printed
-list-judged : (cs : List PathCommand) → length cs ≤ 262144 → allWithin commandLimit (numbersOf cs) ≡ true → judgeList (codesOf cs) (numbersOf cs) ≡ drawn cs
-unfolding judgeList
-list-judged cs few within = rw (codes-length cs, le-ltb 262144 (length cs) few) (commands-read cs within)
-
 list-length : (cs : List PathCommand) → length cs ≤ 262144 → allWithin commandLimit (numbersOf cs) ≡ true → measureList (codesOf cs) (numbersOf cs) ≡ Length (pathLength cs)
 unfolding measureList measuredOf
 list-length cs few within = ap measuredOf (list-judged cs few within)
@@ -173,10 +142,6 @@ text-drawn : (cs : List PathCommand) → length cs ≤ 262144 → allWithin comm
     → measuredText (codesOf cs) (numbersOf cs) (measureList (codesOf cs) (numbersOf cs)) ≡ drawnText (drawn cs)
 unfolding measuredText drawnText
 text-drawn cs few within = ap (measuredText (codesOf cs) (numbersOf cs)) (list-length cs few within) ∙ list-answer cs (pathLength cs)
-
--- the first places of a list, as many as it has
-pub taken : {A : Type 0} (n : ℕ) (l : List A) → n ≤ length l → n ≡ length (take n l)
-taken n l h = let e = length-take n l in omega arith
 
 pub room : (n m : ℕ) → n ≤ 258 → 17816 ≤ m → 69 * n + 14 ≤ m
 room n m h l = omega arith
@@ -208,8 +173,8 @@ module _ (closed : ℕ) (v : List Float) (count : ℕ) (codes codes' : List ℕ)
     is-drawn : drawn cs ≡ o
     is-drawn = answered o (sym (ap drawnNumber e) ∙ filled .number-is ∙ ap numberOf fits)
 
-    splits : (0 < count) × (pathCommands closed v count ≡ cs)
-    splits = path-splits closed v count cs (sym is-drawn)
+    splits : (0 < count) × (count ≤ 1024) × (cs ≡ pathCommands closed v count)
+    splits = drawn-path closed v count cs (sym is-drawn)
 
     codes-count-is : i ≡ length (codesOf cs)
     codes-count-is = sym (ap drawnCodes e) ∙ filled .codes-count ∙ ap (λ (p : Outcome). length (codesOf (commandsOf p))) fits
@@ -218,7 +183,7 @@ module _ (closed : ℕ) (v : List Float) (count : ℕ) (codes codes' : List ℕ)
     numbers-count-is = sym (ap drawnNumbers e) ∙ filled .numbers-count ∙ ap (λ (p : Outcome). length (numbersOf (commandsOf p))) fits
 
     codes-few : i ≤ 258
-    codes-few = rw (codes-count-is, ← splits .1) (omega (arith, path-codes closed v count (splits .0)))
+    codes-few = rw (codes-count-is, splits .2) (omega (arith, path-codes closed v count (splits .0)))
 
     pub codes-inside : i ≤ length codes'
     codes-inside = rw (codes-count-is, filled .codes-filled, ap (λ (p : Outcome). onto (codesOf (commandsOf p)) codes) fits, length-append (codesOf cs) (drop (length (codesOf cs)) codes)) (omega arith)
@@ -257,7 +222,7 @@ module _ (closed : ℕ) (v : List Float) (count : ℕ) (codes codes' : List ℕ)
     pub drawn-put : (out out' : List ℕ) → out' ≡ onto (measuredText (take i codes') (take j numbers') (measureList (take i codes') (take j numbers'))) out → out' ≡ onto (drawnText o) out
     drawn-put = put (measuredText (take i codes') (take j numbers') (measureList (take i codes') (take j numbers'))) (drawnText o) measured-drawn
 
-pub ruleset drawing = (drawn-refusal-count, drawn-refusal-put, codes-inside, numbers-inside, taken, codes-most, room, drawn-count, drawn-put)
+pub ruleset drawing = (drawn-refusal-count, drawn-refusal-put, codes-inside, numbers-inside, length-take-le, codes-most, room, drawn-count, drawn-put)
 
 -- ---- plate
 fault-text : (c : Content) (r : Refusal) → readingOf c ≡ Fault r → refusalText r ≡ contentText c
@@ -316,10 +281,10 @@ module _ (text : List ℕ) (reading : Reading) (reading-is : reading ≡ reading
       pub plate-put : (out out' : List ℕ) → out' ≡ onto (drawnText (drawPath closed (take (6 * count) vertices') count)) out → out' ≡ onto (plateText text) out
       plate-put = put (drawnText (drawPath closed (take (6 * count) vertices') count)) (plateText text) drawn-plate
 
-pub ruleset plates = (plate-refusal-count, plate-refusal-put, count-few, vertices-fit, vertices-inside, taken, plate-count, plate-put)
+pub ruleset plates = (plate-refusal-count, plate-refusal-put, count-few, vertices-fit, vertices-inside, length-take-le, plate-count, plate-put)
 
 -- ---- callers that hand the answer on
 pub answer-inside : (t out out' : List ℕ) (n : ℕ) → out' ≡ onto t out → n ≡ length t → n ≤ length out'
 answer-inside t out out' n e n-is = rw (e, length-append t (drop (length t) out)) (omega arith)
 
-pub ruleset answers = (answer-inside, taken)
+pub ruleset answers = (answer-inside, length-take-le)

@@ -4,6 +4,7 @@ use mathlib.Core.Path.{_≡_, refl}
 use mathlib.Core.Bool.{true, false}
 use mathlib.Core.List.{[], _∷_, map}
 use lib.Ieee.{Float, binary32, sub, mul, div, le, round, ofInt, ofBits}
+use Rattle.ieee.specs.Literal.{hundred32}
 use Rattle.ieee.specs.Choice.{min, max, clamp}
 use Rattle.ieee.specs.Fused.{fma}
 use Rattle.ieee.specs.Remainder.{remEuclid}
@@ -25,7 +26,7 @@ use Rattle.repeater.specs.Repeater as repeater
 use Rattle.copies.specs.Order.{rising, falling, orderOf, copyOrder}
 use Rattle.copies.specs.Calls.{isCrowded, verdictOf, after, orderAnswer, copyNumbers, allFinite, finiteAnswer, copyAnswer, transformAnswer}
 use Rattle.plates.specs.Calls.{answer}
-use Rattle.plates.specs.Plates.{tinyBack, hundredth, quarter, half, threeQuarters, minusTen, minusOne, twoAndAHalf, three, four, ten, twelve, fourteen, n25, n75, n90, n100, n180, starred}
+use Rattle.plates.specs.Plates.{tinyBack, hundredth, quarter, half, threeQuarters, minusTen, minusOne, twoAndAHalf, three, four, ten, twelve, fourteen, n25, n75, n90, n180, starred}
 
 -- what the calls answer to the inputs, one after another, is the outputs
 pub all-answered : map (λ p. answer (p .input)) starred ≡ map (λ p. p .output) starred
@@ -40,7 +41,7 @@ abbrev below : ℕ → ℕ → Float
 below n d = round binary32 true n d
 
 -- Each number of the list is the f32 nearest to its decimal.
-numbers-nearest : tinyBack ∷ hundredth ∷ quarter ∷ half ∷ threeQuarters ∷ minusTen ∷ minusOne ∷ twoAndAHalf ∷ three ∷ four ∷ ten ∷ twelve ∷ fourteen ∷ n25 ∷ n75 ∷ n90 ∷ n100 ∷ n180 ∷ []
+numbers-nearest : tinyBack ∷ hundredth ∷ quarter ∷ half ∷ threeQuarters ∷ minusTen ∷ minusOne ∷ twoAndAHalf ∷ three ∷ four ∷ ten ∷ twelve ∷ fourteen ∷ n25 ∷ n75 ∷ n90 ∷ hundred32 ∷ n180 ∷ []
     ≡ below 1 10000000 ∷ above 1 100 ∷ above 25 100 ∷ above 5 10 ∷ above 75 100 ∷ below 10 1 ∷ below 1 1 ∷ above 25 10 ∷ above 3 1 ∷ above 4 1 ∷ above 10 1 ∷ above 12 1 ∷ above 14 1
     ∷ above 25 1 ∷ above 75 1 ∷ above 90 1 ∷ above 100 1 ∷ above 180 1 ∷ []
 unfolding round ofBits

@@ -2,7 +2,7 @@
 use Prim.Native.Nat.{ℕ}
 use mathlib.Core.List.{List, [], _∷_, _++_, map}
 use lib.Ieee.{Float, binary32, ofBits}
-use Rattle.ieee.specs.Literal.{zero32, one32}
+use Rattle.ieee.specs.Literal.{zero32, one32, hundred32}
 use Rattle.copies.specs.Order.{rising}
 use Rattle.plates.specs.Calls.{Input, trim, rectangle, path, order, copy, Output, ranges, ofLength, commands, ordered, copied}
 
@@ -70,9 +70,6 @@ n75 = ofBits binary32 0x4296_0000
 abbrev pub n90 : Float
 n90 = ofBits binary32 0x42b4_0000
 
-abbrev pub n100 : Float
-n100 = ofBits binary32 0x42c8_0000
-
 abbrev pub n180 : Float
 n180 = ofBits binary32 0x4334_0000
 
@@ -87,13 +84,13 @@ notWhole = 0
 abbrev pub trims : List Plate
 trims =
     -- 0, 100, 0 whole
-    (trim zero32 n100 zero32 gives ranges 1 (zero32 ∷ one32 ∷ []) whole)
+    (trim zero32 hundred32 zero32 gives ranges 1 (zero32 ∷ one32 ∷ []) whole)
     -- 25, 75, 0 gives (0.25, 0.75)
     ∷ (trim n25 n75 zero32 gives ranges 1 (quarter ∷ threeQuarters ∷ []) notWhole)
     -- 0, 100, 90 gives (0.25, 1), (0, 0.25)
-    ∷ (trim zero32 n100 n90 gives ranges 2 (quarter ∷ one32 ∷ zero32 ∷ quarter ∷ []) notWhole)
+    ∷ (trim zero32 hundred32 n90 gives ranges 2 (quarter ∷ one32 ∷ zero32 ∷ quarter ∷ []) notWhole)
     -- 0, 100, 180 gives (0.5, 1), (0, 0.5), not whole
-    ∷ (trim zero32 n100 n180 gives ranges 2 (half ∷ one32 ∷ zero32 ∷ half ∷ []) notWhole)
+    ∷ (trim zero32 hundred32 n180 gives ranges 2 (half ∷ one32 ∷ zero32 ∷ half ∷ []) notWhole)
     -- 25, 75, -0.0000001 gives (0.25, 0.75)
     ∷ (trim n25 n75 tinyBack gives ranges 1 (quarter ∷ threeQuarters ∷ []) notWhole)
     -- 0, 0.01, 0 nothing
@@ -114,7 +111,7 @@ shapes =
 
 -- A repeater that does not scale or turn and whose anchor is 0: so many copies from an offset on, each moved on by a position, of opacity 1.
 abbrev pub repeater : Float → Float → Float → Float → List Float
-repeater copies offset x y = copies ∷ offset ∷ zero32 ∷ zero32 ∷ x ∷ y ∷ n100 ∷ n100 ∷ zero32 ∷ one32 ∷ one32 ∷ []
+repeater copies offset x y = copies ∷ offset ∷ zero32 ∷ zero32 ∷ x ∷ y ∷ hundred32 ∷ hundred32 ∷ zero32 ∷ one32 ∷ one32 ∷ []
 
 -- Copies 2.5: order 0, 1, 2 in mode 1, else 2, 1, 0. A mode is any of 0 to 255.
 abbrev pub twoAndAHalfCopies : List Float

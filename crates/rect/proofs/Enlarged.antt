@@ -13,8 +13,8 @@ use Rattle.ieee.specs.Fused.{fma}
 use Rattle.ieee.specs.Grid.{On, Twin}
 use Rattle.ieee.proofs.Cut.{cut-exact}
 use Rattle.ieee.proofs.Operations.{sub-is}
-use Rattle.ieee.proofs.Grid.{zero-on, neg-on}
-use Rattle.ieee.proofs.Twins.{twin-weaken, twin-abs, twin-add, twin-sub, twin-mul, twin-fma-right, twin-min, twin-clamp}
+use Rattle.ieee.proofs.Grid.{neg-on}
+use Rattle.ieee.proofs.Twins.{finer, zero-twin, twin-abs, twin-add, twin-sub, twin-mul, twin-fma-right, twin-min, twin-clamp}
 use Rattle.ieee.proofs.Counted.{counted, counted-neg, counted-add}
 use Rattle.ieee.proofs.Limits.{twin-le-small}
 use Rattle.command.specs.Enlarged.{Twins}
@@ -36,10 +36,6 @@ epsilon-value : HasValue epsilon false 1 (2 ^ 23)
 unfolding ofBits
 epsilon-value = (refl, refl)
 
-zero-twin : (k q b : ℕ) → Twin k q b zero32 zero32
-unfolding ofBits
-zero-twin k q b = record { grid = zero-on q b false; is = refl }
-
 -- ---- the corners
 -- What the commands need of the corners: besides the five numbers, the far ends less the radius, which are at most 2 ^ 15 too.
 record CornersTwin (k : ℕ) (c c' : Corners) : Type 0 where
@@ -50,9 +46,6 @@ record CornersTwin (k : ℕ) (c c' : Corners) : Type 0 where
   radius-twin : Twin k 11 13 (c .radius) (c' .radius)
   right-inner : Twin k 11 15 (c .right ⊖ c .radius) (c' .right ⊖ c' .radius)
   bottom-inner : Twin k 11 15 (c .bottom ⊖ c .radius) (c' .bottom ⊖ c' .radius)
-
-finer : {k q b : ℕ} (q' b' : ℕ) {x x' : Float} → q ≤ q' → b ≤ b' → Twin k q b x x' → Twin k q' b' x x'
-finer {k} {q} {b} q' b' {x} {x'} Q B X = twin-weaken k q b q' b' x x' Q B X
 
 -- At most 2 ^ 14 + 2 ^ 13 + 2 ^ 13, which is 2 ^ 15. From powers of two alone it would be 2 ^ 16, since 2 ^ 14 + 2 ^ 13 is none.
 inner-on : {l w r : Float} → On 11 14 l → On 11 13 w → On 11 13 r → On 11 15 ((l ⊕ w) ⊖ r)

@@ -2,7 +2,7 @@
 -- a side is at most 5, the radius and the tangent at most 1, so that a control point is at most 7. Assumes nothing.
 use mathlib.Core.Path.{_≡_}
 use mathlib.Core.Bool.{Bool, true, false, cond}
-use Prim.Native.Nat.{ℕ, _*_, _^_, _≤_, _<_}
+use Prim.Native.Nat.{ℕ, _*_, _^_, _≤_}
 use native.Mathlib.Nat.{mul-le-mul-right}
 use lib.Dec.{lit≤, lit<}
 use lib.Ieee.{Float, le, neg, ofBits, binary32}
@@ -13,8 +13,7 @@ use Rattle.ieee.specs.Choice.{min}
 use Rattle.ieee.specs.Limit.{allWithin, Bounded, AllBounded}
 use Rattle.ieee.specs.Fused.{fma}
 use Rattle.ieee.proofs.Bounds.{Times, reach-whole, zero-bounded, bounded-number, bounded-weaken, abs-bounded, min-bounded, clamp-bounded, add-bounded, sub-bounded, mul-times, mul-bounded, fma-times}
-use Rattle.command.specs.Commands.{numbersOf}
-use Rattle.command.specs.Enlarged.{commandLimit}
+use Rattle.command.specs.Commands.{numbersOf, commandLimit}
 use Rattle.command.proofs.Bounds.{commands→within}
 use Rattle.rect.specs.declared.Corners.{Corners}
 use Rattle.rect.specs.Rect.{half, roundRectKappa, epsilon, rectCorners, plainRect, tangentOf, roundRect, rectPath}

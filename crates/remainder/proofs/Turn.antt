@@ -14,12 +14,17 @@ use lib.Ieee.Exact.{HasValue}
 use lib.Ieee.Back.{round-whole}
 use lib.Ieee.Scale.{finite}
 use Rattle.ieee.specs.Literal.{turn32}
+use Rattle.ieee.specs.Sign.{abs}
 use Rattle.ieee.proofs.Round.{round-own}
 use Rattle.ieee.proofs.Operations.{unlike-false, div-at, rem-at}
 
 turn-is : turn32 ≡ fin false 45 (pos 3)
 unfolding ofBits ofFields odd trailingZeros
 turn-is = refl
+
+pub turn-abs : abs turn32 ≡ turn32
+unfolding ofBits ofFields odd trailingZeros
+turn-abs = refl
 
 turn-value : HasValue turn32 false 360 1
 turn-value = subst (λ (y : Float). HasValue y false 360 1) (sym turn-is) (refl, refl)

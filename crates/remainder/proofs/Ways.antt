@@ -1,23 +1,21 @@
 -- What each way out of a function of this crate owes, as the code meets it: a premise for each test and for each call's result, so that `search` finds it. Assumes nothing.
-use mathlib.Core.Path.{_≡_, refl, sym, ap, _∙_, subst}
+use mathlib.Core.Path.{_≡_, sym, ap, _∙_, subst}
 use Prim.Native.Nat.{ℕ, _+_, _-_, _*_, _%_, _^_, _≤_, _<_}
 use native.Mathlib.Nat.{le-trans, le-of-lt, lt-of-lt-of-le, lt-of-le-of-lt, zero-lt-suc, one-mul, mul-one, mul-assoc, mul-pos, mod-le}
 use native.Mathlib.Omega.{arith}
 use mathlib.Core.Bool.{Bool, true, false, not, cond}
 use borrow.Author.Tests.{not-true, not-false}
 use lib.Dec.{T, lit≤}
-use lib.Count.{trailingZeros}
 use lib.Pow.{pow-add, pow-pos, pow-mono, pow-lt, shl-lt, shl-exact}
-use lib.Ieee.{Float, binary32, round, add, sub, div, rem, fits, lt, neg, ofBits, ofFields, odd}
+use lib.Ieee.{Float, binary32, round, add, sub, div, rem, fits, lt, neg}
 use lib.Ieee.Exact.{HasValue}
 use Rattle.ieee.specs.Literal.{zero32, turn32}
-use Rattle.ieee.specs.Sign.{abs}
 use Rattle.ieee.specs.Remainder.{lifted, remEuclid}
 use Rattle.ieee.proofs.Digits.{pow-split}
 use Rattle.ieee.proofs.Value.{rescale}
 use Rattle.float.specs.declared.Parts.{Parts}
 use Rattle.float.specs.Parts.{PartsOf}
-use Rattle.remainder.proofs.Turn.{rem-turn, rem-special, rem-less, rem-near, quotient, period}
+use Rattle.remainder.proofs.Turn.{turn-abs, rem-turn, rem-special, rem-less, rem-near, quotient, period}
 
 -- ---- whole_rem, part_rem, power
 pub rem-shift : (q j : ℕ) → q < 2 ^ 24 → j < 15 → (q * 2 ^ j % 2 ^ 64 % 360 ≡ q * 2 ^ j % 360) × (q * 2 ^ j % 2 ^ 64 % 360 < 360)
@@ -81,10 +79,6 @@ pub near-stays : (x : Float) → fits binary32 x ≡ true → lt x turn32 ≡ tr
 near-stays x F h k = rem-near x (subst T (sym F) tt) (subst T (sym h) tt) (subst T (sym k) tt)
 
 -- ---- rem_euclid_360
-turn-abs : abs turn32 ≡ turn32
-unfolding ofBits ofFields odd trailingZeros
-turn-abs = refl
-
 lifted-is : (x r : Float) (b : Bool) → r ≡ rem binary32 x turn32 → lt r zero32 ≡ b → cond b (add binary32 r turn32) r ≡ remEuclid binary32 x turn32
 unfolding remEuclid
 lifted-is x r b e h = sym (ap (lifted binary32 turn32) (sym e) ∙ opened)

@@ -1,10 +1,10 @@
--- The copies of a repeater: `repeater_copy_order`, `repeater_transform_for_copy` and what they call in drawing_paths.rs, operation by operation. Definitions only.
+-- The matrix and the opacity of a repeater's copy: `repeater_transform_for_copy` and what it calls in drawing_paths.rs. Definitions only.
 use Prim.Native.Nat.{ℕ, zero, suc, _-_}
 use mathlib.Core.Bool.{Bool, cond}
 use lib.Dec.{leb}
 use lib.IntN.{pos}
 use lib.Ieee.{Float, binary32, ofBits, ofInt, div, neg, lt}
-use Rattle.ieee.specs.Literal.{zero32, one32, hundred32, epsilon32}
+use Rattle.ieee.specs.Literal.{zero32, one32, hundred32, tenThousandth32, epsilon32}
 use Rattle.ieee.specs.Operators.{_⊕_, _⊖_, _⊗_}
 use Rattle.ieee.specs.Sign.{abs}
 use Rattle.ieee.specs.Limit.{within}
@@ -21,7 +21,7 @@ copyCount r = countUp (r .copies)
 
 -- the f32 nearest to 1e-4, below which the inverse of a scale does not go
 abbrev pub leastScale : Float
-leastScale = ofBits binary32 0x38d1_b717
+leastScale = tenThousandth32
 
 -- a part of a step's scale, and of the inverse step's
 unfoldable pub stepScale : Float → Float → Bool → Float
@@ -53,7 +53,8 @@ unfoldable pub steps : ℕ → Matrix → Matrix
 steps zero step = identity
 steps (suc n) step = concat (steps n step) step
 
--- `repeater_transform_for_iteration`: whole steps, then a part of one; at most 2 ^ -23 in absolute value is the identity
+-- `repeater_transform_for_iteration`: whole steps, then a part of one; at most 2 ^ -23 in absolute value is the identity.
+-- Of what is larger, Rust's `is_sign_negative` is `lt _ 0`.
 unfoldable pub iterationTransform : RepeaterStyle → Float → Matrix
 iterationTransform r iteration =
     let inverse = lt iteration zero32 in
@@ -66,6 +67,10 @@ iterationTransform r iteration =
 -- the copy's matrix
 unfoldable pub copyTransform : RepeaterStyle → ℕ → Matrix
 copyTransform r copy = iterationTransform r (r .offset ⊕ ofInt binary32 (pos copy))
+
+-- 4,096: there are no more copies
+abbrev pub mostCopies : Float
+mostCopies = ofBits binary32 0x4580_0000
 
 -- 4,096: no absolute offset is larger
 abbrev pub mostOffset : Float

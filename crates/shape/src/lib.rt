@@ -3,15 +3,13 @@ use command::Drawn;
 use command::PathCommand;
 use command::Refusal;
 ghost use mathlib.Core.Path.{_≡_};
-ghost use mathlib.Core.List.{List};
 ghost use Prim.Native.Nat.{_+_, _<_, _≤_};
 ghost use lib.Dec.{leb};
-ghost use lib.Ieee.{Float};
 ghost use lib.ListN.{length, getD};
 ghost use lib.Seq.{sets};
 ghost use Rattle.command.specs.declared.PathCommand.the-variants.{Close};
 ghost use Rattle.command.specs.Commands.{coordinatesOf, codesOf, numbersOf};
-ghost use Rattle.command.specs.Outcomes.{Filled, Outcome, drawn, fitted, drawnNumber, drawnCodes, drawnNumbers};
+ghost use Rattle.command.specs.Outcomes.{Filled, drawn, fitted, drawnNumber, drawnCodes, drawnNumbers};
 ghost use Rattle.shape.specs.Shape.{shapeCommands, Fit};
 
 // What is to be drawn. A path's vertices stand in a list beside it.

@@ -29,7 +29,7 @@ use Rattle.trim.proofs.Inside.{one-bounded, offset-bounded, part-number
 zero-on : On 37 0 zero32
 zero-on = on→On 37 0 zero32 (unfold ofBits ofFields odd trailingZeros in tt)
 
-one-on : On 37 0 one32
+pub one-on : On 37 0 one32
 one-on = on→On 37 0 one32 (unfold ofBits ofFields odd trailingZeros in tt)
 
 -- 13743895 * 2 ^ -37

@@ -12,7 +12,7 @@ use lib.Ieee.Scale.{finite}
 use lib.Ieee.Positive.{positive}
 use Rattle.ieee.specs.Literal.{zero32, one32, turn32, hundred32}
 use Rattle.ieee.specs.Operators.{_⊕_, _⊖_, _⊗_}
-use Rattle.ieee.specs.Sign.{isNumber, abs}
+use Rattle.ieee.specs.Sign.{isNumber}
 use Rattle.ieee.specs.Limit.{Bounded}
 use Rattle.ieee.specs.Remainder.{lifted, remEuclid}
 use Rattle.ieee.specs.Whole.{roundAway}
@@ -22,7 +22,7 @@ use Rattle.ieee.proofs.Monotone.{add-le, sub-le, mul-le, div-le}
 use Rattle.ieee.proofs.Whole.{round-away-le}
 use Rattle.ieee.proofs.Choice.{clamp-mono, clamp-le, clamp-ge}
 use Rattle.ieee.proofs.Bounds.{bounded-between, bounded-finite, zero-bounded}
-use Rattle.remainder.proofs.Turn.{rem-turn}
+use Rattle.remainder.proofs.Turn.{turn-abs, rem-turn}
 use Rattle.trim.specs.declared.TrimStyle.{TrimStyle}
 use Rattle.trim.specs.declared.Ranges.the-variants.{Nothing, One, Two}
 use Rattle.trim.specs.Trim.{tenThousand32, trimStep, clampUnit, offsetOf, placedAt, snapped, near, isWhole, rangesBetween, lower, upper, normalizedTrimSegments}
@@ -62,10 +62,6 @@ turn-positive = tt
 turn-finite : T (finite turn32)
 unfolding ofBits ofFields odd trailingZeros
 turn-finite = tt
-
-turn-abs : abs turn32 ≡ turn32
-unfolding ofBits ofFields odd trailingZeros
-turn-abs = refl
 
 turn-round : round binary32 false 360 1 ≡ turn32
 unfolding ofBits ofFields odd trailingZeros span climb size units round

@@ -1,7 +1,7 @@
 -- The visible ranges of a trim: `normalized_trim_segments` and `is_full_trim_segments` of drawing_paths.rs, operation by operation. Definitions only.
 use mathlib.Core.Bool.{Bool, false, cond, _&&_, _||_}
 use lib.Ieee.{Float, binary32, ofBits, div, lt, le}
-use Rattle.ieee.specs.Literal.{zero32, one32, turn32, hundred32}
+use Rattle.ieee.specs.Literal.{zero32, one32, turn32, hundred32, tenThousandth32}
 use Rattle.ieee.specs.Operators.{_⊕_, _⊖_, _⊗_}
 use Rattle.ieee.specs.Choice.{clamp}
 use Rattle.ieee.specs.Limit.{within}
@@ -17,7 +17,7 @@ tenThousand32 = ofBits binary32 0x461c_4000
 
 -- the f32 nearest to 0.0001, by which trims are rounded; it is `FULL_TRIM_EPSILON` too
 abbrev pub trimStep : Float
-trimStep = ofBits binary32 0x38d1_b717
+trimStep = tenThousandth32
 
 -- from 0 to 1; a -0 stays
 abbrev pub clampUnit : Float → Float

@@ -1,6 +1,6 @@
 // A float to a whole number: down, up, and to the nearest one. A result of zero keeps the sign.
 ghost use mathlib.Core.Path.{_≡_};
-ghost use Prim.Native.Nat.{ℕ, _^_, _≤_, _<_};
+ghost use Prim.Native.Nat.{_^_, _≤_, _<_};
 ghost use lib.Ieee as Ieee;
 ghost use lib.Ieee.{binary32};
 ghost use Rattle.ieee.specs.Whole as Whole;

@@ -2,7 +2,7 @@
 // Finite numbers are counted in units of 2^-149, the smallest f32, as `digits` * 2^`drops` of them.
 ghost use mathlib.Core.Path.{_≡_};
 ghost use mathlib.Core.Bool.{false, not};
-ghost use Prim.Native.Nat.{_+_, _-_, _*_, _/_, _^_, _<_, _≤_};
+ghost use Prim.Native.Nat.{_+_, _-_, _*_, _^_, _<_, _≤_};
 ghost use lib.Dec.{T};
 ghost use lib.Ieee.{nan, binary32, units, isNan};
 ghost use Rattle.ieee.specs.Pattern.{infinity};

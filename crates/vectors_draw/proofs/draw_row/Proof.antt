@@ -1,6 +1,6 @@
 -- `vectors_draw::draw_row` is safe: no more entries are lent than the row has. Assumes nothing.
 use borrow.Author.Needs.{needs}
-use Rattle.pattern_text.proofs.Parts.{part-length}
+use lib.Seq.{length-take-le}
 use Rattle.vectors_draw.proofs.draw_row.Statement.{statement}
 use Rattle.vectors_draw.proofs.draw_row.Tie as tie
 
@@ -11,7 +11,7 @@ at-most-requires : tie.Need-at-most-requires
 at-most-requires c κs = search needs
 
 slice-aggregate-draw-item : tie.Need-slice-aggregate-draw-item
-slice-aggregate-draw-item c = search (needs, part-length)
+slice-aggregate-draw-item c = search (needs, length-take-le)
 
 draw-item-requires : tie.Need-draw-item-requires
 draw-item-requires c κs = search needs

@@ -1,6 +1,6 @@
 -- `vectors_draw::lend` is safe: no more is lent than the list and the buffers have. Assumes nothing.
 use borrow.Author.Needs.{needs}
-use Rattle.pattern_text.proofs.Parts.{part-length}
+use lib.Seq.{length-take-le}
 use Rattle.vectors_draw.proofs.lend.Statement.{statement}
 use Rattle.vectors_draw.proofs.lend.Tie as tie
 
@@ -41,19 +41,19 @@ slice-reshare-prefix-draw : tie.Need-slice-reshare-prefix-draw
 slice-reshare-prefix-draw c = search needs
 
 slice-aggregate-draw : tie.Need-slice-aggregate-draw
-slice-aggregate-draw c = search (needs, part-length)
+slice-aggregate-draw c = search (needs, length-take-le)
 
 slice-relend-prefix-draw : tie.Need-slice-relend-prefix-draw
 slice-relend-prefix-draw c = search needs
 
 slice-aggregate-draw-2 : tie.Need-slice-aggregate-draw-2
-slice-aggregate-draw-2 c = search (needs, part-length)
+slice-aggregate-draw-2 c = search (needs, length-take-le)
 
 slice-relend-prefix-draw-2 : tie.Need-slice-relend-prefix-draw-2
 slice-relend-prefix-draw-2 c = search needs
 
 slice-aggregate-draw-3 : tie.Need-slice-aggregate-draw-3
-slice-aggregate-draw-3 c = search (needs, part-length)
+slice-aggregate-draw-3 c = search (needs, length-take-le)
 
 draw-requires : tie.Need-draw-requires
 draw-requires c κs = search needs

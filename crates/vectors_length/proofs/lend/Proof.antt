@@ -1,5 +1,5 @@
 -- `vectors_length::lend` is safe: no more is lent than the lists have. Assumes nothing.
-use Rattle.pattern_text.proofs.Parts.{part-length}
+use lib.Seq.{length-take-le}
 use borrow.Author.Needs.{needs}
 use Rattle.vectors_length.proofs.lend.Statement.{statement}
 use Rattle.vectors_length.proofs.lend.Tie as tie
@@ -26,13 +26,13 @@ slice-relend-prefix-fill-and-call : tie.Need-slice-relend-prefix-fill-and-call
 slice-relend-prefix-fill-and-call c = search needs
 
 slice-aggregate-fill-and-call : tie.Need-slice-aggregate-fill-and-call
-slice-aggregate-fill-and-call c = search (needs, part-length)
+slice-aggregate-fill-and-call c = search (needs, length-take-le)
 
 slice-relend-prefix-fill-and-call-2 : tie.Need-slice-relend-prefix-fill-and-call-2
 slice-relend-prefix-fill-and-call-2 c = search needs
 
 slice-aggregate-fill-and-call-2 : tie.Need-slice-aggregate-fill-and-call-2
-slice-aggregate-fill-and-call-2 c = search (needs, part-length)
+slice-aggregate-fill-and-call-2 c = search (needs, length-take-le)
 
 fill-and-call-requires : tie.Need-fill-and-call-requires
 fill-and-call-requires c κs = search needs

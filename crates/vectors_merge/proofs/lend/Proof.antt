@@ -1,6 +1,6 @@
 -- `vectors_merge::lend` is safe: no more is lent than the lists and the buffers have. Assumes nothing.
 use borrow.Author.Needs.{needs}
-use Rattle.pattern_text.proofs.Parts.{part-length}
+use lib.Seq.{length-take-le}
 use Rattle.vectors_merge.proofs.lend.Statement.{statement}
 use Rattle.vectors_merge.proofs.lend.Tie as tie
 
@@ -56,25 +56,25 @@ slice-reshare-prefix-merge : tie.Need-slice-reshare-prefix-merge
 slice-reshare-prefix-merge c = search needs
 
 slice-aggregate-merge : tie.Need-slice-aggregate-merge
-slice-aggregate-merge c = search (needs, part-length)
+slice-aggregate-merge c = search (needs, length-take-le)
 
 slice-reshare-prefix-merge-2 : tie.Need-slice-reshare-prefix-merge-2
 slice-reshare-prefix-merge-2 c = search needs
 
 slice-aggregate-merge-2 : tie.Need-slice-aggregate-merge-2
-slice-aggregate-merge-2 c = search (needs, part-length)
+slice-aggregate-merge-2 c = search (needs, length-take-le)
 
 slice-relend-prefix-merge : tie.Need-slice-relend-prefix-merge
 slice-relend-prefix-merge c = search needs
 
 slice-aggregate-merge-3 : tie.Need-slice-aggregate-merge-3
-slice-aggregate-merge-3 c = search (needs, part-length)
+slice-aggregate-merge-3 c = search (needs, length-take-le)
 
 slice-relend-prefix-merge-2 : tie.Need-slice-relend-prefix-merge-2
 slice-relend-prefix-merge-2 c = search needs
 
 slice-aggregate-merge-4 : tie.Need-slice-aggregate-merge-4
-slice-aggregate-merge-4 c = search (needs, part-length)
+slice-aggregate-merge-4 c = search (needs, length-take-le)
 
 merge-requires : tie.Need-merge-requires
 merge-requires c κs = search needs

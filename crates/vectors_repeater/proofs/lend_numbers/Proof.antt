@@ -1,5 +1,5 @@
 -- `vectors_repeater::lend_numbers` is safe: no more is lent than the list has. Assumes nothing.
-use Rattle.pattern_text.proofs.Parts.{part-length}
+use lib.Seq.{length-take-le}
 use borrow.Author.Needs.{needs}
 use Rattle.vectors_repeater.proofs.lend_numbers.Statement.{statement}
 use Rattle.vectors_repeater.proofs.lend_numbers.Tie as tie
@@ -14,7 +14,7 @@ slice-relend-prefix-answer-copy : tie.Need-slice-relend-prefix-answer-copy
 slice-relend-prefix-answer-copy c = search needs
 
 slice-aggregate-answer-copy : tie.Need-slice-aggregate-answer-copy
-slice-aggregate-answer-copy c = search (needs, part-length)
+slice-aggregate-answer-copy c = search (needs, length-take-le)
 
 answer-copy-requires : tie.Need-answer-copy-requires
 answer-copy-requires c κs = search needs

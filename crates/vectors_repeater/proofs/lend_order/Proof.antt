@@ -1,5 +1,5 @@
 -- `vectors_repeater::lend_order` is safe: no more is lent than the list has. Assumes nothing.
-use Rattle.pattern_text.proofs.Parts.{part-length}
+use lib.Seq.{length-take-le}
 use borrow.Author.Needs.{needs}
 use Rattle.vectors_repeater.proofs.lend_order.Statement.{statement}
 use Rattle.vectors_repeater.proofs.lend_order.Tie as tie
@@ -14,7 +14,7 @@ slice-relend-prefix-answer-order : tie.Need-slice-relend-prefix-answer-order
 slice-relend-prefix-answer-order c = search needs
 
 slice-aggregate-answer-order : tie.Need-slice-aggregate-answer-order
-slice-aggregate-answer-order c = search (needs, part-length)
+slice-aggregate-answer-order c = search (needs, length-take-le)
 
 answer-order-requires : tie.Need-answer-order-requires
 answer-order-requires c κs = search needs

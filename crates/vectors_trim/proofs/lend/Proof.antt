@@ -1,5 +1,5 @@
 -- `vectors_trim::lend` is safe: no more is lent than the lists have. Assumes nothing.
-use Rattle.pattern_text.proofs.Parts.{part-length}
+use lib.Seq.{length-take-le}
 use borrow.Author.Needs.{needs}
 use Rattle.vectors_trim.proofs.lend.Statement.{statement}
 use Rattle.vectors_trim.proofs.lend.Tie as tie
@@ -20,13 +20,13 @@ slice-relend-prefix-answer-lengths : tie.Need-slice-relend-prefix-answer-lengths
 slice-relend-prefix-answer-lengths c = search needs
 
 slice-aggregate-answer-lengths : tie.Need-slice-aggregate-answer-lengths
-slice-aggregate-answer-lengths c = search (needs, part-length)
+slice-aggregate-answer-lengths c = search (needs, length-take-le)
 
 slice-relend-prefix-answer-lengths-2 : tie.Need-slice-relend-prefix-answer-lengths-2
 slice-relend-prefix-answer-lengths-2 c = search needs
 
 slice-aggregate-answer-lengths-2 : tie.Need-slice-aggregate-answer-lengths-2
-slice-aggregate-answer-lengths-2 c = search (needs, part-length)
+slice-aggregate-answer-lengths-2 c = search (needs, length-take-le)
 
 answer-lengths-requires : tie.Need-answer-lengths-requires
 answer-lengths-requires c κs = search needs

@@ -1,2 +1,0 @@
--- What the proofs of the vectors programs cite.
-pub mod Parts
