@@ -29,7 +29,7 @@ use Rattle.copies.specs.declared.Verdict.the-variants.{Fault, Sound}
 use Rattle.copies.specs.Answers.{refused, answered}
 use Rattle.copies.specs.Enlarged.{movedNumbers, movedAnswer}
 use Rattle.copies.specs.Order.{orderOf, copyOrder}
-use Rattle.copies.specs.Calls.{repeaterNumbers, repeaterLimit, isCrowded, verdictOf, after, orderAnswer, copyNumbers, allFinite, finiteAnswer, copyAnswer, transformAnswer}
+use Rattle.copies.specs.Calls.{repeaterNumbers, repeaterLimit, hasTooMany, verdictOf, after, orderAnswer, copyNumbers, allFinite, finiteAnswer, copyAnswer, transformAnswer}
 use Rattle.copies.proofs.Ways.{offset-within, count-few}
 
 limit-value : HasValue repeaterLimit false (2 ^ 20) 1
@@ -92,7 +92,7 @@ module _ {k : ℕ} (K : k ≤ 6) where
 
     -- every refusal of the repeater is the same
     pub verdict-same : verdictOf r' ≡ verdictOf r
-    unfolding verdictOf isCrowded
+    unfolding verdictOf hasTooMany
     verdict-same =
         λ i. cond (lt mostOffset (R .copies-same i) || lt mostOffset (abs (R .offset-same i))) (Fault TooMany)
         (cond (numbers-alike i) (cond (eq (turn-same i) zero32) Sound (Fault Unsupported)) (Fault OutOfRange))

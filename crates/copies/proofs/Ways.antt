@@ -37,22 +37,22 @@ use Rattle.copies.specs.declared.Verdict.the-variants.{Fault, Sound}
 use Rattle.copies.specs.declared.Written.{Written}
 use Rattle.copies.specs.Answers.{Answer, refused, answered, answerNumber, answerList, fitted, Filled, writtenNumber, writtenCount}
 use Rattle.copies.specs.Order.{rising, falling, orderOf, copyOrder}
-use Rattle.copies.specs.Calls.{repeaterNumbers, isCrowded, repeaterLimit, verdictOf, after, orderAnswer, copyNumbers, allFinite, finiteAnswer, copyAnswer, transformAnswer}
+use Rattle.copies.specs.Calls.{repeaterNumbers, hasTooMany, repeaterLimit, verdictOf, after, orderAnswer, copyNumbers, allFinite, finiteAnswer, copyAnswer, transformAnswer}
 
 -- ---- verdict_of
 module _ (r : RepeaterStyle) where
-  pub crowded-copies : lt mostOffset (r .copies) ≡ true → true ≡ isCrowded r
-  unfolding isCrowded
-  crowded-copies h = rw h
+  pub many-copies : lt mostOffset (r .copies) ≡ true → true ≡ hasTooMany r
+  unfolding hasTooMany
+  many-copies h = rw h
 
-  pub crowded-offset : lt mostOffset (r .copies) ≡ false → (a : Float) → a ≡ abs (r .offset) → lt mostOffset a ≡ isCrowded r
-  unfolding isCrowded
-  crowded-offset h a e = ap (lt mostOffset) e ∙ rw h
+  pub many-offset : lt mostOffset (r .copies) ≡ false → (a : Float) → a ≡ abs (r .offset) → lt mostOffset a ≡ hasTooMany r
+  unfolding hasTooMany
+  many-offset h a e = ap (lt mostOffset) e ∙ rw h
 
-  module _ (x : Bool) (x-is : x ≡ isCrowded r) where
-    pub verdict-crowded : x ≡ true → Fault TooMany ≡ verdictOf r
+  module _ (x : Bool) (x-is : x ≡ hasTooMany r) where
+    pub verdict-many : x ≡ true → Fault TooMany ≡ verdictOf r
     unfolding verdictOf
-    verdict-crowded t = rw (sym x-is ∙ t)
+    verdict-many t = rw (sym x-is ∙ t)
 
     module _ (few : x ≡ false) (y : Bool) (y-is : y ≡ allWithin repeaterLimit (repeaterNumbers r)) where
       pub verdict-beyond : y ≡ false → Fault OutOfRange ≡ verdictOf r
@@ -68,7 +68,7 @@ module _ (r : RepeaterStyle) where
         unfolding verdictOf
         verdict-turned t = rw (sym x-is ∙ few, sym y-is ∙ inside, t)
 
-pub ruleset verdicts = (crowded-copies, crowded-offset, verdict-crowded, verdict-beyond, verdict-sound, verdict-turned)
+pub ruleset verdicts = (many-copies, many-offset, verdict-many, verdict-beyond, verdict-sound, verdict-turned)
 
 -- ---- put_rising, put_falling
 -- the rest, written on the list as it is, gives the whole on the list as it was
@@ -283,7 +283,7 @@ fault-sound : (r : Refusal) {A : Type 0} → Fault r ≡ Sound → A
 fault-sound r e = absurd (subst IsSound (sym e) tt)
 
 sound-splits : (r : RepeaterStyle) → verdictOf r ≡ Sound → (lt mostOffset (r .copies) ≡ false) × (lt mostOffset (abs (r .offset)) ≡ false) × (allWithin repeaterLimit (repeaterNumbers r) ≡ true)
-unfolding verdictOf isCrowded
+unfolding verdictOf hasTooMany
 sound-splits r e = go (lt mostOffset (r .copies)) (lt mostOffset (abs (r .offset))) (allWithin repeaterLimit (repeaterNumbers r)) (eq (r .rotation) zero32) e
   where
     go : (a b c d : Bool) → cond (a || b) (Fault TooMany) (cond c (cond d Sound (Fault Unsupported)) (Fault OutOfRange)) ≡ Sound → (a ≡ false) × (b ≡ false) × (c ≡ true)

@@ -37,8 +37,8 @@ repeaterNumbers r =
     r .copies ∷ r .offset ∷ r .anchor .x ∷ r .anchor .y ∷ r .position .x ∷ r .position .y ∷ r .scale .x ∷ r .scale .y ∷ r .rotation ∷ r .«start_opacity» ∷ r .«end_opacity» ∷ []
 
 -- Over 4,096 copies, which is the same of their number and of its ceiling, or an absolute offset over 4,096. An infinity meets this before 3, but copies of minus infinity do not.
-unfoldable pub isCrowded : RepeaterStyle → Bool
-isCrowded r = lt mostCopies (r .copies) || lt mostOffset (abs (r .offset))
+unfoldable pub hasTooMany : RepeaterStyle → Bool
+hasTooMany r = lt mostCopies (r .copies) || lt mostOffset (abs (r .offset))
 
 -- 1,048,576
 abbrev pub repeaterLimit : Float
@@ -47,7 +47,7 @@ repeaterLimit = numberLimit
 -- the checks 2, 3, and 5 for a rotation that is not zero; the mode may be any
 unfoldable pub verdictOf : RepeaterStyle → Verdict
 verdictOf r =
-    cond (isCrowded r) (Fault TooMany)
+    cond (hasTooMany r) (Fault TooMany)
     (cond (allWithin repeaterLimit (repeaterNumbers r)) (cond (eq (r .rotation) zero32) Sound (Fault Unsupported)) (Fault OutOfRange))
 
 unfoldable pub after : {A : Type 0} → Verdict → Answer A → Answer A

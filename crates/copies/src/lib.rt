@@ -70,8 +70,8 @@ pub fn written_count(written: Written) -> usize
     }
 }
 
-fn is_crowded(repeater: RepeaterStyle) -> bool
-    ensures { λ r. ⌜ r ≡ spec.isCrowded repeater ⌝ }
+fn has_too_many(repeater: RepeaterStyle) -> bool
+    ensures { λ r. ⌜ r ≡ spec.hasTooMany repeater ⌝ }
 {
     if repeater.copies > 4096.0 {
         true
@@ -103,7 +103,7 @@ fn is_within(repeater: RepeaterStyle) -> bool
 pub fn verdict_of(repeater: RepeaterStyle) -> Verdict
     ensures { λ r. ⌜ r ≡ spec.verdictOf repeater ⌝ }
 {
-    if is_crowded(repeater) {
+    if has_too_many(repeater) {
         return Verdict::Fault(Refusal::TooMany);
     }
     if is_within(repeater) {

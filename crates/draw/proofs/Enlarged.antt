@@ -30,7 +30,7 @@ use Rattle.item.specs.declared.ItemRow.{ItemRow}
 use Rattle.item.specs.Rows.{itemRow, isPath, markLimit, isListed}
 use Rattle.draw.specs.Checks.{coordinateLimit}
 use Rattle.draw.specs.Paths.{drawPath}
-use Rattle.draw.specs.Items.{isDrawable, isBare, entriesOf, entriesRead, itemShape, drawSource, drawItem}
+use Rattle.draw.specs.Items.{isDrawable, hasNoVertices, entriesOf, entriesRead, itemShape, drawSource, drawItem}
 use Rattle.draw.proofs.Sound.{limit-value}
 
 -- ---- the limit: 2 ^ 13 on the grid, and 2 ^ 19 after the enlargement, are below it
@@ -103,7 +103,7 @@ entries-outcome k K row items items' same twins =
     let v' = drop (row .place) items' in
     let n = entriesOf row in
     rw same
-    (checks-outcome (ltb 2 (row .kind)) (isBare row) (ltb 1024 (row .count)) (ltb (length items) (row .place + n)) Unsupported Empty TooMany OutOfBounds OutOfRange
+    (checks-outcome (ltb 2 (row .kind)) (hasNoVertices row) (ltb 1024 (row .count)) (ltb (length items) (row .place + n)) Unsupported Empty TooMany OutOfBounds OutOfRange
     (λ e.
     let inside = ltb-false (length items) (row .place + n) e in
     let at : (i : ℕ) → i < n → Twin k 10 13 (getD v i nan) (getD v' i nan) = λ i h. rw (getD-drop (row .place) items i nan, getD-drop (row .place) items' i nan) (twins (row .place + i) (omega arith) (omega arith) (omega arith)) in

@@ -19,7 +19,7 @@ use Rattle.shape.specs.Shape.{shapeCommands}
 use Rattle.item.specs.declared.ItemRow.{ItemRow}
 use Rattle.item.specs.Rows.{isPath}
 use Rattle.draw.specs.Checks.{coordinateLimit}
-use Rattle.draw.specs.Items.{isBare, entriesOf, itemShape, drawSource}
+use Rattle.draw.specs.Items.{hasNoVertices, entriesOf, itemShape, drawSource}
 
 vertices-read : (n : ℕ) (v v' : List Float) → ((i : ℕ) → i < 6 * n → getD v' i nan ≡ getD v i nan) → verticesOf n v' ≡ verticesOf n v
 unfolding verticesOf
@@ -63,8 +63,8 @@ source-read row items items' long same = rw long (go (ltb (length items) (row .p
     v' = drop (row .place) items'
 
     go : (b : Bool) → ltb (length items) (row .place + n) ≡ b
-        → cond (ltb 2 (row .kind)) (refused Unsupported) (cond (isBare row) (refused Empty) (cond (ltb 1024 (row .count)) (refused TooMany) (cond b (refused OutOfBounds) (cond (allWithin coordinateLimit (take n v')) (drawn (shapeCommands (itemShape row v') v')) (refused OutOfRange)))))
-        ≡ cond (ltb 2 (row .kind)) (refused Unsupported) (cond (isBare row) (refused Empty) (cond (ltb 1024 (row .count)) (refused TooMany) (cond b (refused OutOfBounds) (cond (allWithin coordinateLimit (take n v)) (drawn (shapeCommands (itemShape row v) v)) (refused OutOfRange)))))
+        → cond (ltb 2 (row .kind)) (refused Unsupported) (cond (hasNoVertices row) (refused Empty) (cond (ltb 1024 (row .count)) (refused TooMany) (cond b (refused OutOfBounds) (cond (allWithin coordinateLimit (take n v')) (drawn (shapeCommands (itemShape row v') v')) (refused OutOfRange)))))
+        ≡ cond (ltb 2 (row .kind)) (refused Unsupported) (cond (hasNoVertices row) (refused Empty) (cond (ltb 1024 (row .count)) (refused TooMany) (cond b (refused OutOfBounds) (cond (allWithin coordinateLimit (take n v)) (drawn (shapeCommands (itemShape row v) v)) (refused OutOfRange)))))
     go true e = refl
     go false e =
         let inside = ltb-false (length items) (row .place + n) e in

@@ -23,7 +23,7 @@ use Rattle.item.specs.declared.ItemRow.{ItemRow}
 use Rattle.item.specs.Rows.{itemRow, isPath}
 use Rattle.draw.specs.Checks.{coordinateLimit}
 use Rattle.draw.specs.Paths.{drawPath}
-use Rattle.draw.specs.Items.{isDrawable, isBare, entriesOf, entriesRead, itemShape, drawSource, drawItem}
+use Rattle.draw.specs.Items.{isDrawable, hasNoVertices, entriesOf, entriesRead, itemShape, drawSource, drawItem}
 use Rattle.ieee.specs.Single.{AllSingle, Single}
 use Rattle.rect.proofs.Single.{rect-single}
 use Rattle.path.proofs.Single.{commands-single}
@@ -60,7 +60,7 @@ pub source-single : (row : ItemRow) (items : List Float) → ReadSingle row item
 unfolding drawSource entriesRead
 source-single row items at =
     let v = drop (row .place) items in
-    checks-single (ltb 2 (row .kind)) (isBare row) (ltb 1024 (row .count)) (ltb (length items) (row .place + entriesOf row)) (allWithin coordinateLimit (take (entriesOf row) v))
+    checks-single (ltb 2 (row .kind)) (hasNoVertices row) (ltb 1024 (row .count)) (ltb (length items) (row .place + entriesOf row)) (allWithin coordinateLimit (take (entriesOf row) v))
     Unsupported Empty TooMany OutOfBounds OutOfRange (shapeCommands (itemShape row v) v)
     (λ e. shape-single row v (λ p i h. let q = row .place in let n = 6 * row .count in
     let inside : q + n ≤ length items = subst (λ (m : ℕ). q + m ≤ length items) (ap (λ (b : Bool). cond b n 5) p) (ltb-false (length items) (q + entriesOf row) e) in

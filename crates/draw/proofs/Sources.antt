@@ -24,7 +24,7 @@ use Rattle.item.specs.declared.ItemRow.{ItemRow}
 use Rattle.item.specs.Rows.{itemRow}
 use Rattle.draw.specs.Checks.{coordinateLimit}
 use Rattle.draw.specs.Paths.{drawPath}
-use Rattle.draw.specs.Items.{isDrawable, isBare, entriesOf, itemShape, drawSource, drawItem}
+use Rattle.draw.specs.Items.{isDrawable, hasNoVertices, entriesOf, itemShape, drawSource, drawItem}
 use Rattle.draw.proofs.Ways.{item-fits}
 
 -- the row's numbers are the first of those from its place on
@@ -55,7 +55,7 @@ unfolding drawSource
 drawn-source row items cs e =
     let v = drop (row .place) items in
     let n = entriesOf row in
-    let p = passed (ltb 2 (row .kind)) (isBare row) (ltb 1024 (row .count)) (ltb (length items) (row .place + n)) (allWithin coordinateLimit (take n v)) Unsupported Empty TooMany OutOfBounds OutOfRange (shapeCommands (itemShape row v) v) cs e in
+    let p = passed (ltb 2 (row .kind)) (hasNoVertices row) (ltb 1024 (row .count)) (ltb (length items) (row .place + n)) (allWithin coordinateLimit (take n v)) Unsupported Empty TooMany OutOfBounds OutOfRange (shapeCommands (itemShape row v) v) cs e in
     let inside = ltb-false (length items) (row .place + n) (p .3) in
     record {
       supported = ltb-false 2 (row .kind) (p .0);

@@ -29,7 +29,7 @@ use Rattle.draw.specs.declared.Checked.{Checked}
 use Rattle.draw.specs.declared.Checked.the-variants.{Fault, Sound}
 use Rattle.draw.specs.Checks.{coordinateLimit, outcomeOf, Ready}
 use Rattle.draw.specs.Paths.{drawPath}
-use Rattle.draw.specs.Items.{isDrawable, isBare, entriesOf, itemShape, drawSource, drawItem}
+use Rattle.draw.specs.Items.{isDrawable, hasNoVertices, entriesOf, itemShape, drawSource, drawItem}
 
 -- ---- check_path
 module _ (closed : ℕ) (v : List Float) (count : ℕ) where
@@ -83,13 +83,13 @@ module _ (row : ItemRow) (t : Bool) (is : t ≡ isListed row) where
 
 pub ruleset rows = (listed-kind, not-listed)
 
--- ---- is_bare, entries_of and shape_of
+-- ---- has_no_vertices, entries_of and shape_of
 module _ (row : ItemRow) where
-  pub bare-path : row .kind ≡ 1 → eqb (row .count) 0 ≡ isBare row
-  bare-path h = rw (eq-eqb (row .kind) 1 h)
+  pub no-vertices-path : row .kind ≡ 1 → eqb (row .count) 0 ≡ hasNoVertices row
+  no-vertices-path h = rw (eq-eqb (row .kind) 1 h)
 
-  pub bare-other : (row .kind ≡ 1 → ⊥) → false ≡ isBare row
-  bare-other h = rw (ne-eqb (row .kind) 1 h)
+  pub no-vertices-other : (row .kind ≡ 1 → ⊥) → false ≡ hasNoVertices row
+  no-vertices-other h = rw (ne-eqb (row .kind) 1 h)
 
   pub entries-path : row .kind ≡ 1 → 6 * row .count ≡ entriesOf row
   entries-path h = rw (eq-eqb (row .kind) 1 h)
@@ -126,10 +126,10 @@ module _ (row : ItemRow) where
         )
         (ap Rect e)
 
-pub ruleset shapes = (bare-path, bare-other, entries-path, entries-rect, shape-path, five-inside, first-inside, shape-rect)
+pub ruleset shapes = (no-vertices-path, no-vertices-other, entries-path, entries-rect, shape-path, five-inside, first-inside, shape-rect)
 
 -- ---- check_source
-pub item-fits : (row : ItemRow) (v : List Float) → isBare row ≡ false → row .count ≤ 1024 → entriesOf row ≤ length v → Fit (itemShape row v) v
+pub item-fits : (row : ItemRow) (v : List Float) → hasNoVertices row ≡ false → row .count ≤ 1024 → entriesOf row ≤ length v → Fit (itemShape row v) v
 unfolding itemShape
 item-fits row v = go (isPath row)
   where
@@ -148,21 +148,21 @@ module _ (row : ItemRow) (items : List Float) where
   unfolding drawSource outcomeOf
   source-unsupported a = rw (lt-ltb 2 (row .kind) a)
 
-  module _ (a : row .kind ≤ 2) (bare : Bool) (bare-is : bare ≡ isBare row) where
-    pub source-empty : bare ≡ true → outcomeOf (Fault Empty) items ≡ drawSource row items
+  module _ (a : row .kind ≤ 2) (empty : Bool) (empty-is : empty ≡ hasNoVertices row) where
+    pub source-empty : empty ≡ true → outcomeOf (Fault Empty) items ≡ drawSource row items
     unfolding drawSource outcomeOf
-    source-empty b = rw (le-ltb 2 (row .kind) a, ← bare-is, b)
+    source-empty b = rw (le-ltb 2 (row .kind) a, ← empty-is, b)
 
-    module _ (b : bare ≡ false) where
+    module _ (b : empty ≡ false) where
       pub source-many : 1024 < row .count → outcomeOf (Fault TooMany) items ≡ drawSource row items
       unfolding drawSource outcomeOf
-      source-many c = rw (le-ltb 2 (row .kind) a, ← bare-is, b, lt-ltb 1024 (row .count) c)
+      source-many c = rw (le-ltb 2 (row .kind) a, ← empty-is, b, lt-ltb 1024 (row .count) c)
 
       module _ (c : row .count ≤ 1024) (n : ℕ) (n-is : n ≡ entriesOf row) where
         source-outside : length items < row .place + entriesOf row → outcomeOf (Fault OutOfBounds) items ≡ drawSource row items
         unfolding drawSource outcomeOf
         source-outside d =
-            rw (le-ltb 2 (row .kind) a, ← bare-is, b, le-ltb 1024 (row .count) c, lt-ltb (length items) (row .place + entriesOf row) d)
+            rw (le-ltb 2 (row .kind) a, ← empty-is, b, le-ltb 1024 (row .count) c, lt-ltb (length items) (row .place + entriesOf row) d)
 
         pub source-short : length items < n → outcomeOf (Fault OutOfBounds) items ≡ drawSource row items
         source-short d = source-outside (omega arith)
@@ -192,7 +192,7 @@ module _ (row : ItemRow) (items : List Float) where
               source-beyond f =
                   rw (
                     le-ltb 2 (row .kind) a,
-                    ← bare-is,
+                    ← empty-is,
                     b,
                     le-ltb 1024 (row .count) c,
                     le-ltb (length items) (row .place + entriesOf row) entries-inside,
@@ -207,7 +207,7 @@ module _ (row : ItemRow) (items : List Float) where
                     rw (
                       s-is,
                       le-ltb 2 (row .kind) a,
-                      ← bare-is,
+                      ← empty-is,
                       b,
                       le-ltb 1024 (row .count) c,
                       le-ltb (length items) (row .place + entriesOf row) entries-inside,
@@ -219,7 +219,7 @@ module _ (row : ItemRow) (items : List Float) where
                 place-inside = omega arith
 
                 pub shape-fits : Fit s v
-                shape-fits = rw s-is (item-fits row v (sym bare-is ∙ b) c (rw length-drop (omega arith)))
+                shape-fits = rw s-is (item-fits row v (sym empty-is ∙ b) c (rw length-drop (omega arith)))
 
 pub ruleset sources = (
   source-unsupported,

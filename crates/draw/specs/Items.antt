@@ -22,8 +22,8 @@ unfolding isListed
 isDrawable row = isListed row && leb (row .kind) 4
 
 -- a path without vertices
-abbrev pub isBare : ItemRow → Bool
-isBare row = isPath row && eqb (row .count) 0
+abbrev pub hasNoVertices : ItemRow → Bool
+hasNoVertices row = isPath row && eqb (row .count) 0
 
 -- how many numbers the row has in the item list: six a vertex, or a rectangle's centre, size and roundness
 abbrev pub entriesOf : ItemRow → ℕ
@@ -44,7 +44,7 @@ unfolding allWithin shapeCommands itemShape
 drawSource row items =
     let v = drop (row .place) items in
     cond (ltb 2 (row .kind)) (refused Unsupported)
-    (cond (isBare row) (refused Empty)
+    (cond (hasNoVertices row) (refused Empty)
     (cond (ltb 1024 (row .count)) (refused TooMany)
     (cond (ltb (length items) (row .place + entriesOf row)) (refused OutOfBounds)
     (cond (allWithin coordinateLimit (take (entriesOf row) v)) (drawn (shapeCommands (itemShape row v) v)) (refused OutOfRange)))))

@@ -9,7 +9,7 @@ ghost use lib.ListN.{length, drop};
 ghost use Rattle.command.specs.Outcomes.{Filled, fitted, drawnNumber, drawnCodes, drawnNumbers};
 ghost use Rattle.draw.specs.Checks.{outcomeOf, Ready};
 ghost use Rattle.draw.specs.Paths.{drawPath};
-ghost use Rattle.draw.specs.Items.{isDrawable, isBare, entriesOf, itemShape, drawSource, drawItem};
+ghost use Rattle.draw.specs.Items.{isDrawable, hasNoVertices, entriesOf, itemShape, drawSource, drawItem};
 
 // What the checks find: the first refusal, or a shape and the place where its numbers start.
 pub enum Checked {
@@ -53,8 +53,8 @@ fn is_drawable(row: ItemRow) -> bool
 }
 
 // Whether a row is a path without vertices.
-fn is_bare(row: ItemRow) -> bool
-    ensures { λ r. ⌜ r ≡ isBare row ⌝ }
+fn has_no_vertices(row: ItemRow) -> bool
+    ensures { λ r. ⌜ r ≡ hasNoVertices row ⌝ }
 {
     if row.kind == 1 { row.count == 0 } else { false }
 }
@@ -92,7 +92,7 @@ pub fn check_source(row: ItemRow, items: &[f32]) -> Checked
     if row.kind > 2 {
         return Checked::Fault(Refusal::Unsupported);
     }
-    if is_bare(row) {
+    if has_no_vertices(row) {
         return Checked::Fault(Refusal::Empty);
     }
     if row.count > 1024 {

@@ -39,7 +39,7 @@ use Rattle.cut.specs.Answers.{lengthsAnswer, answerNumbers}
 use Rattle.repeater.specs.Matrix.{concat, preTranslate, preScale}
 use Rattle.repeater.specs.Repeater as repeater
 use Rattle.copies.specs.Answers.{answered}
-use Rattle.copies.specs.Calls.{isCrowded, verdictOf, after, copyNumbers, allFinite, finiteAnswer, copyAnswer, transformAnswer}
+use Rattle.copies.specs.Calls.{hasTooMany, verdictOf, after, copyNumbers, allFinite, finiteAnswer, copyAnswer, transformAnswer}
 use Rattle.enlargement.specs.Plates.{Lent, Plate, OnGrid, GridAt, of-vertices, PlateOnGrid, enlarge}
 use Rattle.enlargement.specs.Claim.{AnsweredAlike}
 use Rattle.enlargement.specs.Buffers.{FilledAlike}
@@ -186,11 +186,11 @@ rows-joined = refl
 
 -- the last copy is shifted by 20, and by 80
 shift-20 : transformAnswer (plate .repeater) 2 ≡ answered (one32 ∷ zero32 ∷ zero32 ∷ one32 ∷ ofBits binary32 0x41a0_0000 ∷ zero32 ∷ zero32 ∷ [])
-unfolding ofBits allWithin lt le ofInt add sub mul div fma concat preTranslate preScale repeater.copyCount repeater.stepScale repeater.stepShift repeater.stepMatrix repeater.stepTransform repeater.steps repeater.iterationTransform repeater.copyTransform repeater.opacityOf repeater.copyOpacity isCrowded verdictOf after copyNumbers allFinite finiteAnswer copyAnswer transformAnswer
+unfolding ofBits allWithin lt le ofInt add sub mul div fma concat preTranslate preScale repeater.copyCount repeater.stepScale repeater.stepShift repeater.stepMatrix repeater.stepTransform repeater.steps repeater.iterationTransform repeater.copyTransform repeater.opacityOf repeater.copyOpacity hasTooMany verdictOf after copyNumbers allFinite finiteAnswer copyAnswer transformAnswer
 shift-20 = refl
 
 shift-80 : transformAnswer (larger .repeater) 2 ≡ answered (one32 ∷ zero32 ∷ zero32 ∷ one32 ∷ ofBits binary32 0x42a0_0000 ∷ zero32 ∷ zero32 ∷ [])
-unfolding enlarge ofBits allWithin lt le ofInt add sub mul div fma concat preTranslate preScale repeater.copyCount repeater.stepScale repeater.stepShift repeater.stepMatrix repeater.stepTransform repeater.steps repeater.iterationTransform repeater.copyTransform repeater.opacityOf repeater.copyOpacity isCrowded verdictOf after copyNumbers allFinite finiteAnswer copyAnswer transformAnswer
+unfolding enlarge ofBits allWithin lt le ofInt add sub mul div fma concat preTranslate preScale repeater.copyCount repeater.stepScale repeater.stepShift repeater.stepMatrix repeater.stepTransform repeater.steps repeater.iterationTransform repeater.copyTransform repeater.opacityOf repeater.copyOpacity hasTooMany verdictOf after copyNumbers allFinite finiteAnswer copyAnswer transformAnswer
 shift-80 = refl
 
 -- the factors are the f32 2, 4, 8, 16, 32 and 64

@@ -14,7 +14,7 @@ use Rattle.draw.specs.Paths.{drawPath}
 use Rattle.repeater.specs.Matrix.{concat, preTranslate, preScale}
 use Rattle.repeater.specs.Repeater as repeater
 use Rattle.copies.specs.Answers as copies
-use Rattle.copies.specs.Calls.{isCrowded, verdictOf, after, copyNumbers, allFinite, finiteAnswer, copyAnswer, transformAnswer}
+use Rattle.copies.specs.Calls.{hasTooMany, verdictOf, after, copyNumbers, allFinite, finiteAnswer, copyAnswer, transformAnswer}
 
 -- ---- the grid of 1 / 1,024: an out-tangent of 2 ^ -14 is within 1e-4, and twice that is not
 abbrev tangent : Float → Outcome
@@ -63,20 +63,20 @@ copyAt offset anchor position scale copy =
 
 large-scale : copyAt zero32 (ofBits binary32 0x4480_0000) zero32 (ofBits binary32 0x4948_0000) 9
     ≡ copies.answered (ofBits binary32 0x7a00_0000 ∷ zero32 ∷ zero32 ∷ one32 ∷ ofBits binary32 0xff00_0000 ∷ zero32 ∷ one32 ∷ [])
-unfolding ofBits allWithin lt le ofInt add sub mul div fma concat preTranslate preScale repeater.copyCount repeater.stepScale repeater.stepShift repeater.stepMatrix repeater.stepTransform repeater.steps repeater.iterationTransform repeater.copyTransform repeater.opacityOf repeater.copyOpacity isCrowded verdictOf after copyNumbers allFinite finiteAnswer copyAnswer transformAnswer
+unfolding ofBits allWithin lt le ofInt add sub mul div fma concat preTranslate preScale repeater.copyCount repeater.stepScale repeater.stepShift repeater.stepMatrix repeater.stepTransform repeater.steps repeater.iterationTransform repeater.copyTransform repeater.opacityOf repeater.copyOpacity hasTooMany verdictOf after copyNumbers allFinite finiteAnswer copyAnswer transformAnswer
 large-scale = refl
 
 large-scale-enlarged : copyAt zero32 (ofBits binary32 0x4500_0000) zero32 (ofBits binary32 0x4948_0000) 9 ≡ copies.refused NotFinite
-unfolding ofBits allWithin lt le ofInt add sub mul div fma concat preTranslate preScale repeater.copyCount repeater.stepScale repeater.stepShift repeater.stepMatrix repeater.stepTransform repeater.steps repeater.iterationTransform repeater.copyTransform repeater.opacityOf repeater.copyOpacity isCrowded verdictOf after copyNumbers allFinite finiteAnswer copyAnswer transformAnswer
+unfolding ofBits allWithin lt le ofInt add sub mul div fma concat preTranslate preScale repeater.copyCount repeater.stepScale repeater.stepShift repeater.stepMatrix repeater.stepTransform repeater.steps repeater.iterationTransform repeater.copyTransform repeater.opacityOf repeater.copyOpacity hasTooMany verdictOf after copyNumbers allFinite finiteAnswer copyAnswer transformAnswer
 large-scale-enlarged = refl
 
 -- ---- the anchor is multiplied with the position: around 8,192 a third of a step by 1 is rounded to 341 / 1,024, and a third of a step by 2 to 683 / 1,024, which is not twice that
 third-of-one : copyAt (ofBits binary32 0x3eaa_aaab) (ofBits binary32 0x4600_0000) one32 (ofBits binary32 0x42c8_0000) 0
     ≡ copies.answered (one32 ∷ zero32 ∷ zero32 ∷ one32 ∷ ofBits binary32 0x3eaa_8000 ∷ zero32 ∷ one32 ∷ [])
-unfolding ofBits allWithin lt le ofInt add sub mul div fma concat preTranslate preScale repeater.copyCount repeater.stepScale repeater.stepShift repeater.stepMatrix repeater.stepTransform repeater.steps repeater.iterationTransform repeater.copyTransform repeater.opacityOf repeater.copyOpacity isCrowded verdictOf after copyNumbers allFinite finiteAnswer copyAnswer transformAnswer
+unfolding ofBits allWithin lt le ofInt add sub mul div fma concat preTranslate preScale repeater.copyCount repeater.stepScale repeater.stepShift repeater.stepMatrix repeater.stepTransform repeater.steps repeater.iterationTransform repeater.copyTransform repeater.opacityOf repeater.copyOpacity hasTooMany verdictOf after copyNumbers allFinite finiteAnswer copyAnswer transformAnswer
 third-of-one = refl
 
 third-of-two : copyAt (ofBits binary32 0x3eaa_aaab) (ofBits binary32 0x4600_0000) (ofBits binary32 0x4000_0000) (ofBits binary32 0x42c8_0000) 0
     ≡ copies.answered (one32 ∷ zero32 ∷ zero32 ∷ one32 ∷ ofBits binary32 0x3f2a_c000 ∷ zero32 ∷ one32 ∷ [])
-unfolding ofBits allWithin lt le ofInt add sub mul div fma concat preTranslate preScale repeater.copyCount repeater.stepScale repeater.stepShift repeater.stepMatrix repeater.stepTransform repeater.steps repeater.iterationTransform repeater.copyTransform repeater.opacityOf repeater.copyOpacity isCrowded verdictOf after copyNumbers allFinite finiteAnswer copyAnswer transformAnswer
+unfolding ofBits allWithin lt le ofInt add sub mul div fma concat preTranslate preScale repeater.copyCount repeater.stepScale repeater.stepShift repeater.stepMatrix repeater.stepTransform repeater.steps repeater.iterationTransform repeater.copyTransform repeater.opacityOf repeater.copyOpacity hasTooMany verdictOf after copyNumbers allFinite finiteAnswer copyAnswer transformAnswer
 third-of-two = refl

@@ -4,8 +4,8 @@ use Rattle.copies.proofs.Ways.{verdicts}
 use Rattle.copies.proofs.verdict_of.Statement.{statement}
 use Rattle.copies.proofs.verdict_of.Tie as tie
 
-is-crowded-requires : tie.Need-is-crowded-requires
-is-crowded-requires c κs = search (needs, verdicts)
+has-too-many-requires : tie.Need-has-too-many-requires
+has-too-many-requires c κs = search (needs, verdicts)
 
 returns : tie.Need-returns
 returns c = search (needs, verdicts)
@@ -25,4 +25,4 @@ returns-4 c = search (needs, verdicts)
 pub verdict-of-spec : {M : Type 1} → statement M
 verdict-of-spec =
     tie.close
-    (tie.spec is-crowded-requires returns is-within-requires returns-2 returns-3 returns-4)
+    (tie.spec has-too-many-requires returns is-within-requires returns-2 returns-3 returns-4)

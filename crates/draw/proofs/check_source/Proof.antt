@@ -7,8 +7,8 @@ use Rattle.draw.proofs.check_source.Tie as tie
 returns : tie.Need-returns
 returns c = search (needs, sources)
 
-is-bare-requires : tie.Need-is-bare-requires
-is-bare-requires c κs = search needs
+has-no-vertices-requires : tie.Need-has-no-vertices-requires
+has-no-vertices-requires c κs = search needs
 
 returns-2 : tie.Need-returns-2
 returns-2 c = search (needs, sources)
@@ -60,7 +60,7 @@ check-source-spec =
     tie.close
     (tie.spec
     returns
-    is-bare-requires
+    has-no-vertices-requires
     returns-2
     returns-3
     entries-of-requires
