@@ -1,1 +1,3 @@
--- The contracts of `whole` cite the definitions of `ieee`.
+-- The contracts of `whole` cite these definitions and those of `ieee`.
+pub mod Even
+pub mod Small

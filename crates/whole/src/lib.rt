@@ -1,10 +1,18 @@
 // A float to a whole number: down, up, and to the nearest one. A result of zero keeps the sign.
 ghost use mathlib.Core.Path.{_≡_};
 ghost use Prim.Native.Nat.{_^_, _≤_, _<_};
+ghost use mathlib.Core.Bool.{not};
+ghost use lib.Dec.{T};
 ghost use lib.Ieee as Ieee;
-ghost use lib.Ieee.{binary32};
+ghost use lib.Ieee.{binary32, isNan};
+ghost use Rattle.ieee.specs.Sign as Sign;
 ghost use Rattle.ieee.specs.Whole as Whole;
 ghost use Rattle.ieee.specs.Whole.{wholeDown, wholeUp, wholeNear};
+ghost use Rattle.whole.specs.Even.{roundEven};
+ghost use Rattle.whole.specs.Small.{Small, UnitOf};
+
+// 2^22. Up to this size a sum with 2^23 keeps its last digit at 1, and a half is exact beside a whole number.
+const SHORT: f32 = 4194304.0;
 
 // n with a sign, as a float. The cast is exact.
 pub fn from_whole(negative: bool, n: u64) -> f32
@@ -46,8 +54,8 @@ fn near_at(q: u64, s: u64) -> u64
     0
 }
 
-// Rust's f32::floor.
-pub fn floor(x: f32) -> f32
+// Rust's f32::floor, by the parts of x.
+fn floor_parts(x: f32) -> f32
     ensures { λ r. ⌜ r ≡ Whole.floor binary32 x ⌝ }
 {
     let p = float::split(x);
@@ -68,8 +76,8 @@ pub fn floor(x: f32) -> f32
     }
 }
 
-// Rust's f32::ceil.
-pub fn ceil(x: f32) -> f32
+// Rust's f32::ceil, by the parts of x.
+fn ceil_parts(x: f32) -> f32
     ensures { λ r. ⌜ r ≡ Whole.ceil binary32 x ⌝ }
 {
     let p = float::split(x);
@@ -90,8 +98,8 @@ pub fn ceil(x: f32) -> f32
     }
 }
 
-// Rust's f32::round: half away from zero.
-pub fn round(x: f32) -> f32
+// Rust's f32::round, by the parts of x.
+fn round_parts(x: f32) -> f32
     ensures { λ r. ⌜ r ≡ Whole.roundAway binary32 x ⌝ }
 {
     let p = float::split(x);
@@ -105,4 +113,89 @@ pub fn round(x: f32) -> f32
         return x;
     }
     from_whole(negative, near_at(q, 149 - k))
+}
+
+// The whole number nearest to a size of at most 2^22, half to even. From 2^23 on the last digit of a
+// float is worth 1, so the sum rounds there, and the difference is exact.
+fn even_size(a: f32) -> f32
+    requires { ⌜ Small a ⌝ }
+    ensures { λ r. ⌜ r ≡ roundEven binary32 a ⌝ }
+{
+    (a + 8388608.0) - 8388608.0
+}
+
+// The whole number nearest to it, half up: a half that went down to the even number goes up.
+fn near_size(a: f32) -> f32
+    requires { ⌜ Small a ⌝ }
+    ensures { λ r. ⌜ r ≡ Whole.roundAway binary32 a ⌝ }
+{
+    let r = even_size(a);
+    if r + 0.5 == a { r + 1.0 } else { r }
+}
+
+// x without its sign.
+fn size_of(x: f32) -> f32
+    requires { ⌜ T (not (isNan x)) ⌝ }
+    ensures { λ r. ⌜ r ≡ Sign.abs x ⌝ }
+{
+    f32::from_bits(f32::to_bits(x) % 0x8000_0000)
+}
+
+// 1 with the sign of x. A product with it has no branch to guess, and keeps the sign of a zero.
+fn unit_of(x: f32) -> f32
+    requires { ⌜ T (not (isNan x)) ⌝ }
+    ensures { λ r. ⌜ UnitOf x r ⌝ }
+{
+    let b = f32::to_bits(x);
+    f32::from_bits(b - b % 0x8000_0000 + 0x3f80_0000)
+}
+
+// Rust's f32::round up to 2^22 in size.
+fn round_short(x: f32) -> f32
+    requires { ⌜ Small (Sign.abs x) ⌝ }
+    ensures { λ r. ⌜ r ≡ Whole.roundAway binary32 x ⌝ }
+{
+    near_size(size_of(x)) * unit_of(x)
+}
+
+// Rust's f32::floor up to 2^22 in size: the nearest whole number, or the one before it.
+fn floor_short(x: f32) -> f32
+    requires { ⌜ Small (Sign.abs x) ⌝ }
+    ensures { λ r. ⌜ r ≡ Whole.floor binary32 x ⌝ }
+{
+    let r = even_size(size_of(x)) * unit_of(x);
+    if r > x { r - 1.0 } else { r }
+}
+
+// Rust's f32::floor.
+pub fn floor(x: f32) -> f32
+    ensures { λ r. ⌜ r ≡ Whole.floor binary32 x ⌝ }
+{
+    if float::is_within(x, SHORT) {
+        floor_short(x)
+    } else {
+        floor_parts(x)
+    }
+}
+
+// Rust's f32::ceil.
+pub fn ceil(x: f32) -> f32
+    ensures { λ r. ⌜ r ≡ Whole.ceil binary32 x ⌝ }
+{
+    if float::is_within(x, SHORT) {
+        -floor_short(-x)
+    } else {
+        ceil_parts(x)
+    }
+}
+
+// Rust's f32::round: half away from zero.
+pub fn round(x: f32) -> f32
+    ensures { λ r. ⌜ r ≡ Whole.roundAway binary32 x ⌝ }
+{
+    if float::is_within(x, SHORT) {
+        round_short(x)
+    } else {
+        round_parts(x)
+    }
 }

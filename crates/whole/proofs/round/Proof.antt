@@ -1,38 +1,25 @@
 -- `whole::round` meets its contract. Assumes nothing.
-use Rattle.whole.proofs.Ways.{ways}
+use Rattle.whole.proofs.ShortWays.{short-ways}
 use borrow.Author.Needs.{needs}
 use Rattle.whole.proofs.round.Statement.{statement}
 use Rattle.whole.proofs.round.Tie as tie
 
-split-requires : tie.Need-split-requires
-split-requires c κs = search needs
+is-within-requires : tie.Need-is-within-requires
+is-within-requires c κs = search needs
+
+round-short-requires : tie.Need-round-short-requires
+round-short-requires c κs = search (needs, short-ways)
+
+round-parts-requires : tie.Need-round-parts-requires
+round-parts-requires c κs = search needs
 
 returns : tie.Need-returns
-returns c = search (needs, ways)
+returns c = search needs
 
 returns-2 : tie.Need-returns-2
-returns-2 c = search (needs, ways)
-
-sub-near-at : tie.Need-sub-near-at
-sub-near-at c = search needs
-
-near-at-requires : tie.Need-near-at-requires
-near-at-requires c κs = search needs
-
-from-whole-requires : tie.Need-from-whole-requires
-from-whole-requires c κs = search needs
-
-returns-3 : tie.Need-returns-3
-returns-3 c = search (needs, ways)
+returns-2 c = search needs
 
 pub round-spec : {M : Type 1} → statement M
 round-spec =
     tie.close
-    (tie.spec
-    split-requires
-    returns
-    returns-2
-    sub-near-at
-    near-at-requires
-    from-whole-requires
-    returns-3)
+    (tie.spec is-within-requires round-short-requires round-parts-requires returns returns-2)

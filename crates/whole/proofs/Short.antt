@@ -1,0 +1,139 @@
+-- From the nearest whole number with a half to the even one, one test leads to `round`, and one to `floor`. Assumes nothing.
+use mathlib.Core.Path.{_≡_, refl, sym, ap, _∙_, subst}
+use Prim.Native.Nat.{ℕ, _+_, _*_, _^_, _≤_, _<_}
+use native.Mathlib.Nat.{lt-of-le-of-lt, mul-one, mul-assoc}
+use native.Mathlib.Omega.{arith}
+use mathlib.Core.Bool.{Bool, true, false, _&&_}
+use borrow.Author.Tests.{eqb-true, eqb-false, ltb-true, ltb-false}
+use lib.Dec.{eqb, lit<}
+use lib.Ieee.{Float, binary32, round, add, sub, neg, eq, lt, below}
+use lib.Ieee.Exact.{HasValue}
+use lib.Ieee.Nearest.{closest}
+use Rattle.ieee.specs.Literal.{one32}
+use Rattle.ieee.specs.Sign.{abs}
+use Rattle.ieee.specs.Whole.{wholeNear, floor, roundAway}
+use Rattle.ieee.proofs.Value.{rescale, neg-val}
+use Rattle.ieee.proofs.Operations.{add-at, sub-is}
+use Rattle.ieee.proofs.Comparison.{eq-at, lt-at}
+use Rattle.ieee.proofs.Whole.{whole-at, nearWay, near-way, near-goes, floorWay, floor-way, floor-goes}
+use Rattle.whole.specs.Even.{roundEven}
+use Rattle.whole.specs.Small.{Small}
+use Rattle.whole.proofs.Closest.{above, near-next, near-same, down-same, down-before, up-next, up-same}
+use Rattle.whole.proofs.Even.{evenWay, even-way, even-goes, U, U-pos, half32, one-value, sum-minus, whole-value, half-up-value, next, half-up, closest-small, even-at}
+use Rattle.whole.proofs.Signs.{signed-value}
+
+-- ---- `round`, of a size: a half that went down goes up
+and-true : (t : Bool) → (t && true) ≡ t
+and-true true = refl
+and-true false = refl
+
+tie-of : (k h n : ℕ) → (2 * k + 1) * h ≡ n → 2 * n ≡ 2 * (k * (2 * h)) + 2 * h
+tie-of k h n e = omega arith
+
+of-tie : (k h n : ℕ) → 2 * n ≡ 2 * (k * (2 * h)) + 2 * h → (2 * k + 1) * h ≡ n
+of-tie k h n e = omega arith
+
+module _ (x r : Float) (S : Small x) (e : r ≡ roundEven binary32 x) where
+  abbrev n : ℕ
+  n = S .units
+
+  abbrev k : ℕ
+  k = closest n U
+
+  k-le : k ≤ 2 ^ 22
+  k-le = closest-small x n (S .value) (S .bound)
+
+  r-is : r ≡ round binary32 false k 1
+  r-is = e ∙ even-at x n (S .value) (S .bound)
+
+  r-value : HasValue r false k 1
+  r-value = subst (λ (y : Float). HasValue y false k 1) (sym r-is) (whole-value false k (lt-of-le-of-lt k-le (lit< tt)))
+
+  middle-value : HasValue (add binary32 r half32) false ((2 * k + 1) * 2 ^ 148) U
+  middle-value =
+      rescale (add binary32 r half32) false (2 * k + 1) 2 ((2 * k + 1) * 2 ^ 148) U (lit< tt) (mul-assoc (2 * k + 1) (2 ^ 148) 2)
+      (subst (λ (y : Float). HasValue y false (2 * k + 1) 2) (sym (half-up r k r-value)) (half-up-value k (lt-of-le-of-lt k-le (lit< tt))))
+
+  test-is : eq (add binary32 r half32) x ≡ eqb ((2 * k + 1) * 2 ^ 148) n
+  test-is = eq-at (add binary32 r half32) x false false ((2 * k + 1) * 2 ^ 148) n U U-pos middle-value (S .value) ∙ and-true (eqb ((2 * k + 1) * 2 ^ 148) n)
+
+  round-at : roundAway binary32 x ≡ round binary32 false (wholeNear n U) 1
+  round-at = whole-at binary32 nearWay (roundAway binary32) near-way (near-goes binary32) x false n U U-pos (S .value)
+
+  pub near-size-next : eq (add binary32 r half32) x ≡ true → add binary32 r one32 ≡ roundAway binary32 x
+  near-size-next t =
+      next r k false r-value one32 one-value
+      ∙ ap (λ (z : ℕ). round binary32 false z 1) (sym (near-next n U U-pos (tie-of k (2 ^ 148) n (eqb-true ((2 * k + 1) * 2 ^ 148) n (sym test-is ∙ t)))))
+      ∙ sym round-at
+
+  pub near-size-same : eq (add binary32 r half32) x ≡ false → r ≡ roundAway binary32 x
+  near-size-same t =
+      r-is
+      ∙ ap (λ (z : ℕ). round binary32 false z 1) (sym (near-same n U U-pos (λ h. eqb-false ((2 * k + 1) * 2 ^ 148) n (sym test-is ∙ t) (of-tie k (2 ^ 148) n h))))
+      ∙ sym round-at
+
+-- ---- `floor`, for either sign
+module _ (x r : Float) (S : Small (abs x)) (e : r ≡ roundEven binary32 x) where
+  abbrev N : ℕ
+  N = S .units
+
+  abbrev C : ℕ
+  C = closest N U
+
+  C-le : C ≤ 2 ^ 22
+  C-le = closest-small (abs x) N (S .value) (S .bound)
+
+  -- with the sign s
+  module _ (s : Bool) (v : HasValue x s N U) where
+    even-is : r ≡ round binary32 s C 1
+    even-is = e ∙ whole-at binary32 evenWay (roundEven binary32) even-way even-goes x s N U U-pos v
+
+    even-value : HasValue r s C 1
+    even-value = subst (λ (y : Float). HasValue y s C 1) (sym even-is) (whole-value s C (lt-of-le-of-lt C-le (lit< tt)))
+
+    above-is : lt x r ≡ below s N s (C * U)
+    above-is = lt-at x r s s N (C * U) U U-pos v (rescale r s C 1 (C * U) U (lit< tt) (mul-one (C * U)) even-value)
+
+    floor-at : floor binary32 x ≡ round binary32 s (floorWay s N U) 1
+    floor-at = whole-at binary32 floorWay (floor binary32) floor-way (floor-goes binary32) x s N U U-pos v
+
+  before-plus : HasValue x false N U → lt x r ≡ true → sub binary32 r one32 ≡ floor binary32 x
+  before-plus v t =
+      let l : N < C * U = ltb-true N (C * U) (sym (above-is false v) ∙ t) in
+      sub-is binary32 r one32
+      ∙ add-at binary32 r (neg one32) false true C 1 1 (lit< tt) (even-value false v) (neg-val one32 false 1 1 one-value)
+      ∙ sum-minus C 1 1 (above N U U-pos C l)
+      ∙ ap (λ (z : ℕ). round binary32 false z 1) (sym (down-before N U U-pos l))
+      ∙ sym (floor-at false v)
+
+  before-minus : HasValue x true N U → lt x r ≡ true → sub binary32 r one32 ≡ floor binary32 x
+  before-minus v t =
+      let l : C * U < N = ltb-true (C * U) N (sym (above-is true v) ∙ t) in
+      sub-is binary32 r one32
+      ∙ next r C true (even-value true v) (neg one32) (neg-val one32 false 1 1 one-value)
+      ∙ ap (λ (z : ℕ). round binary32 true z 1) (sym (up-next N U U-pos l))
+      ∙ sym (floor-at true v)
+
+  same-plus : HasValue x false N U → lt x r ≡ false → r ≡ floor binary32 x
+  same-plus v t =
+      let l : C * U ≤ N = ltb-false N (C * U) (sym (above-is false v) ∙ t) in
+      even-is false v ∙ ap (λ (z : ℕ). round binary32 false z 1) (sym (down-same N U U-pos l)) ∙ sym (floor-at false v)
+
+  same-minus : HasValue x true N U → lt x r ≡ false → r ≡ floor binary32 x
+  same-minus v t =
+      let l : N ≤ C * U = ltb-false (C * U) N (sym (above-is true v) ∙ t) in
+      even-is true v ∙ ap (λ (z : ℕ). round binary32 true z 1) (sym (up-same N U U-pos l)) ∙ sym (floor-at true v)
+
+  pub floor-before : lt x r ≡ true → sub binary32 r one32 ≡ floor binary32 x
+  floor-before t = go (signed-value x N U (S .value) .0) (signed-value x N U (S .value) .1)
+    where
+      go : (s : Bool) → HasValue x s N U → sub binary32 r one32 ≡ floor binary32 x
+      go true v = before-minus v t
+      go false v = before-plus v t
+
+  pub floor-same : lt x r ≡ false → r ≡ floor binary32 x
+  floor-same t = go (signed-value x N U (S .value) .0) (signed-value x N U (S .value) .1)
+    where
+      go : (s : Bool) → HasValue x s N U → r ≡ floor binary32 x
+      go true v = same-minus v t
+      go false v = same-plus v t
