@@ -5,10 +5,9 @@ use Prim.Native.Nat.{ℕ, _+_, _-_, _*_, _^_, _<_}
 use native.Mathlib.Nat.{zero-mul, eq-zero-or-pos}
 use native.Mathlib.Omega.{arith}
 use mathlib.Core.Bool.{Bool, true, false}
-use lib.IntN.{pos}
 use lib.Dec.{T}
 use lib.Pow.{pow-pos}
-use lib.Ieee.{Float, fin, Format, binary32, fits, unlike, round, sum, mul, sub, div, ofInt, ofBits}
+use lib.Ieee.{Float, binary32, fits, unlike, round, sum, mul, sub, div, ofInt, ofBits}
 use lib.Ieee.Exact.{HasValue}
 use borrow.Author.Tests.{lt-ltb, le-ltb}
 use Rattle.ieee.specs.Literal.{one32}
@@ -17,41 +16,28 @@ use Rattle.ieee.specs.Fused.{fma}
 use Rattle.ieee.proofs.Value.{value-unique}
 use Rattle.ieee.proofs.Round.{round-own}
 use Rattle.ieee.proofs.Operations.{mul-at, fma-at}
+use Rattle.ieee.proofs.Zeros.{zero-of, zero-fits, zero-has, round-zero}
 use Rattle.curve.specs.Curve.{quadAt, cubicAt, stepOf}
 use Rattle.flatten.specs.Level.{Level, Coordinates, QuadCoordinates}
 
 -- ---- zeros
-abbrev zero-of : Bool → Float
-zero-of s = fin s 0 (pos 0)
-
-zero-fits : (f : Format) (s : Bool) → T (fits f (zero-of s))
-unfolding fits
-zero-fits f true = tt
-zero-fits f false = tt
-
-zero-value : (s : Bool) (c : ℕ) → HasValue (zero-of s) s 0 c
-zero-value s c = (refl, zero-mul c)
-
-zero-round : (s : Bool) (n c : ℕ) → n ≡ 0 → 0 < c → round binary32 s n c ≡ zero-of s
-zero-round s n c e h = ap (λ (k : ℕ). round binary32 s k c) e ∙ round-own binary32 (zero-of s) s 0 c (zero-fits binary32 s) h (zero-value s c)
-
 zero-sum : (s : Bool) (a : ℕ) (t : Bool) (c : ℕ) → a ≡ 0 → 0 < c → (u : Bool) × (sum binary32 s a t 0 c ≡ zero-of u)
 unfolding sum
-zero-sum true a true c e h = (true, zero-round true (a + 0) c (omega arith) h)
-zero-sum false a false c e h = (false, zero-round false (a + 0) c (omega arith) h)
-zero-sum true a false c e h = (false, rw (le-ltb a 0 (omega arith), le-ltb 0 a (omega arith)) (zero-round false (a - 0) c (omega arith) h))
-zero-sum false a true c e h = (false, rw (le-ltb a 0 (omega arith)) (zero-round false (a - 0) c (omega arith) h))
+zero-sum true a true c e h = (true, round-zero binary32 true (a + 0) c (omega arith) h)
+zero-sum false a false c e h = (false, round-zero binary32 false (a + 0) c (omega arith) h)
+zero-sum true a false c e h = (false, rw (le-ltb a 0 (omega arith), le-ltb 0 a (omega arith)) (round-zero binary32 false (a - 0) c (omega arith) h))
+zero-sum false a true c e h = (false, rw (le-ltb a 0 (omega arith)) (round-zero binary32 false (a - 0) c (omega arith) h))
 
 -- ---- a number times 0, alone and on top of a zero
 module _ {q : ℕ} {x : Float} (X : Level q x) where
   none : (u : Bool) × (zero-of false ⊗ x ≡ zero-of u)
   none =
-      let p = mul-at binary32 (zero-of false) x false (X .sign) 0 1 (X .count) (2 ^ q) (omega arith) (pow-pos q) (zero-value false 1) (X .value) in
-      (unlike false (X .sign), p ∙ zero-round (unlike false (X .sign)) (0 * X .count) (1 * 2 ^ q) (zero-mul (X .count)) (omega (arith, pow-pos q)))
+      let p = mul-at binary32 (zero-of false) x false (X .sign) 0 1 (X .count) (2 ^ q) (omega arith) (pow-pos q) (zero-has false 1) (X .value) in
+      (unlike false (X .sign), p ∙ round-zero binary32 (unlike false (X .sign)) (0 * X .count) (1 * 2 ^ q) (zero-mul (X .count)) (omega (arith, pow-pos q)))
 
   none-more : (s : Bool) → (u : Bool) × (fma binary32 (zero-of false) x (zero-of s) ≡ zero-of u)
   none-more s =
-      let p = fma-at binary32 (zero-of false) x (zero-of s) false (X .sign) s 0 1 (X .count) (2 ^ q) 0 (omega arith) (pow-pos q) (zero-value false 1) (X .value) (zero-value s (1 * 2 ^ q)) in
+      let p = fma-at binary32 (zero-of false) x (zero-of s) false (X .sign) s 0 1 (X .count) (2 ^ q) 0 (omega arith) (pow-pos q) (zero-has false 1) (X .value) (zero-has s (1 * 2 ^ q)) in
       let z = zero-sum (unlike false (X .sign)) (0 * X .count) s (1 * 2 ^ q) (zero-mul (X .count)) (omega (arith, pow-pos q)) in
       (z .0, p ∙ z .1)
 
@@ -78,13 +64,13 @@ module _ {q : ℕ} {x : Float} (X : Level q x) (F : T (fits binary32 x)) where
     | inl e ↦
         let s = X .fair e in
         (λ i. sum binary32 (s i) (e i) t 0 (2 ^ q)) ∙ plus-zero t (2 ^ q) (pow-pos q)
-        ∙ value-unique binary32 (zero-of false) x false 0 (2 ^ q) (pow-pos q) (zero-fits binary32 false) F (zero-value false (2 ^ q)) (subst (λ (b : Bool). HasValue x b 0 (2 ^ q)) s (subst (λ (n : ℕ). HasValue x (X .sign) n (2 ^ q)) e (X .value)))
+        ∙ value-unique binary32 (zero-of false) x false 0 (2 ^ q) (pow-pos q) (zero-fits binary32 false) F (zero-has false (2 ^ q)) (subst (λ (b : Bool). HasValue x b 0 (2 ^ q)) s (subst (λ (n : ℕ). HasValue x (X .sign) n (2 ^ q)) e (X .value)))
     | inr p ↦ sum-some (X .sign) (X .count) t (2 ^ q) p ∙ round-own binary32 x (X .sign) (X .count) (2 ^ q) F (pow-pos q) (X .value)
   ]
 
   once : (t : Bool) → fma binary32 one32 x (zero-of t) ≡ x
   once t =
-      fma-at binary32 one32 x (zero-of t) false (X .sign) t 1 1 (X .count) (2 ^ q) 0 (omega arith) (pow-pos q) one-value (X .value) (zero-value t (1 * 2 ^ q))
+      fma-at binary32 one32 x (zero-of t) false (X .sign) t 1 1 (X .count) (2 ^ q) 0 (omega arith) (pow-pos q) one-value (X .value) (zero-has t (1 * 2 ^ q))
       ∙ (λ i. sum binary32 (plain (X .sign) i) (single (X .count) i) t 0 (single (2 ^ q) i)) ∙ own t
     where
       plain : (s : Bool) → unlike false s ≡ s

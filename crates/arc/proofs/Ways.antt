@@ -2,10 +2,11 @@
 use mathlib.Core.Path.{_≡_, refl, sym, ap, ap₂, _∙_, subst}
 use mathlib.Core.Bool.{Bool, true, false, true≢false}
 use mathlib.Core.List.{List, [], _∷_}
-use Prim.Native.Nat.{ℕ, zero, suc, _+_, _-_, _*_, _^_, _≤_, _<_}
+use Prim.Native.Nat.{ℕ, zero, suc, _+_, _*_, _^_, _≤_, _<_}
 use native.Mathlib.Nat.{lt-irrefl}
 use native.Mathlib.Numerals.{add-one}
 use native.Mathlib.Omega.{arith}
+use borrow.Author.Count.{falls}
 use lib.IntN.{pos}
 use lib.Dec.{T}
 use lib.Ieee.{Float, nan, binary32, fits, div, ofInt, ofBits}
@@ -42,10 +43,6 @@ inside-not p e = absurd (true≢false (sym e))
 -- ---- quad_length
 pub passed : (p : Point) (r : Bool) → (r ≡ true → Inside (2 ^ 22) p) → r ≡ true → Inside (2 ^ 22) p
 passed p r f h = f h
-
--- ---- the loops
-pub fewer : (m n : ℕ) → n < m → m - (n + 1) < m - n
-fewer m n h = omega arith
 
 -- ---- quad_point
 module _ (start control end : Point) where
@@ -203,4 +200,4 @@ module _ (start control end : Point) (r : Bool) (level : r ≡ true → AllNear 
     record { x-bounded = quad-near 4 (omega arith); y-bounded = quad-near 5 (omega arith) },
   )
 
-pub ruleset ways = (inside-both, inside-not, passed, fewer, quad-point, quad-first, quad-more, quad-xs, quad-ys, quad-is, eighth-more, eighth-end, between-first, thirds-between, filled-third, between-all, level-first, quad-level-x, quad-level-y, quad-level-inside, cubic-first, cubic-more, cubic-xs, cubic-ys, cubic-is, level-x, level-y, level-inside)
+pub ruleset ways = (inside-both, inside-not, passed, falls, quad-point, quad-first, quad-more, quad-xs, quad-ys, quad-is, eighth-more, eighth-end, between-first, thirds-between, filled-third, between-all, level-first, quad-level-x, quad-level-y, quad-level-inside, cubic-first, cubic-more, cubic-xs, cubic-ys, cubic-is, level-x, level-y, level-inside)

@@ -2,18 +2,16 @@
 use mathlib.Core.Path.{_≡_, refl, sym, ap, _∙_, subst}
 use mathlib.Core.Logic.{inl, inr}
 use Prim.Native.Nat.{ℕ, _+_, _-_, _*_, _^_, _≤_, _<_, zero-le}
-use native.Mathlib.Nat.{le-trans, le-of-eq, lt-of-le-of-lt, lt-irrefl, zero-mul, mul-one, mul-pos, mul-le-mul-left, mul-le-mul-right, eq-zero-or-pos}
+use native.Mathlib.Nat.{le-trans, le-of-eq, lt-of-le-of-lt, lt-irrefl, mul-pos, mul-le-mul-left, mul-le-mul-right, eq-zero-or-pos}
 use native.Mathlib.Omega.{arith}
 use mathlib.Core.Bool.{Bool, true, false, not, _&&_, true≢false}
-use lib.IntN.{pos}
 use lib.Dec.{T, ltb, lit≤}
 use lib.Arith.{le→nltb}
 use lib.Pow.{pow-add, pow-pos, pow-mono, pow-lt}
-use lib.Ieee.{Float, nan, inf, fin, Format, binary32, binary64, unlike, round, sum, add, mul, fits, isNan}
+use lib.Ieee.{Float, Format, binary32, binary64, unlike, round, sum, add, mul, fits, isNan}
 use lib.Ieee.Fits.{and-i, mul-fits, round-fits, fits-widens}
 use lib.Ieee.Bits.{is-false, cond-no}
 use lib.Ieee.Exact.{HasValue}
-use lib.Ieee.Scale.{finite}
 use Rattle.ieee.specs.Cut.{cut}
 use Rattle.ieee.specs.Fused.{fma}
 use Rattle.ieee.proofs.Signed.{P, N}
@@ -21,20 +19,16 @@ use Rattle.ieee.proofs.Sum.{SumOf, sum-of}
 use Rattle.ieee.proofs.Cut.{cut-small, cut-exact, cut-mono, cut-le-pow}
 use Rattle.ieee.proofs.Counted.{Counted}
 use Rattle.ieee.proofs.Value.{value-finite, value-once, value-unique}
-use Rattle.ieee.proofs.Round.{round-cut, round-own, below-top}
+use Rattle.ieee.proofs.Round.{round-cut, below-top}
 use Rattle.ieee.proofs.Operations.{add-at, mul-at, fma-at}
+use Rattle.ieee.proofs.Zeros.{zero-of, round-zero}
+use Rattle.ieee.proofs.Pattern.{finite-number}
 use Rattle.narrow.specs.Kept.{Kept}
 use Rattle.flatten.specs.Level.{Level}
 use Rattle.flatten.specs.Weight.{Weight}
 
-pub finite-number : (x : Float) → T (finite x) → T (not (isNan x))
-unfolding isNan
-finite-number nan f = absurd f
-finite-number (inf s) f = absurd f
-finite-number (fin s m e) f = tt
-
 value-number : (x : Float) (s : Bool) (a c : ℕ) → HasValue x s a c → T (not (isNan x))
-value-number x s a c v = finite-number x (subst T (sym (value-finite x s a c v)) tt)
+value-number x s a c v = finite-number x (value-finite x s a c v)
 
 -- ---- binary64 holds the coordinates and the weights
 value-widens : (x : Float) (s : Bool) (a c : ℕ) → HasValue x s a c → T (fits binary32 x) → T (fits binary64 x && not (isNan x))
@@ -59,10 +53,6 @@ pub record Same (Q A : ℕ) (w z : Float) : Type 0 where
 
 small : (A n : ℕ) → A ≤ 2 ^ 15 → n ≤ A * 2 ^ 37 → n ≤ 2 ^ 52
 small A n h l = omega arith
-
-zero-round : (f : Format) (s : Bool) (n Q : ℕ) → s ≡ false → n ≡ 0 → round f s n (2 ^ Q) ≡ fin false 0 (pos 0)
-unfolding fits
-zero-round f s n Q h e = round-own f (fin false 0 (pos 0)) s n (2 ^ Q) tt (pow-pos Q) (sym h, zero-mul (2 ^ Q) ∙ sym (mul-one n ∙ e))
 
 -- ---- the size and the sign of a total
 total-le : (r : Bool) (n : ℕ) (s : Bool) (a : ℕ) (t : Bool) (b : ℕ) → P r n + (N s a + N t b) ≡ N r n + (P s a + P t b) → n ≤ a + b
@@ -132,7 +122,7 @@ module _ {Q A : ℕ} {w z : Float} (S : Same Q A w z) where
   kept-is {r} K = elim (eq-zero-or-pos (S .count)) [
     | inl e ↦
         let s = S .fair e in
-        K .nought (S .wide ∙ zero-round binary64 (S .sign) (S .count) Q s e) ∙ sym (S .narrow ∙ zero-round binary32 (S .sign) (S .count) Q s e)
+        K .nought (S .wide ∙ round-zero binary64 (S .sign) (S .count) (2 ^ Q) e (pow-pos Q) ∙ ap zero-of s) ∙ sym (S .narrow ∙ round-zero binary32 (S .sign) (S .count) (2 ^ Q) e (pow-pos Q) ∙ ap zero-of s)
     | inr p ↦
         value-unique binary64 r z (S .sign) (cut 24 (S .count)) (2 ^ Q) (pow-pos Q) (K .held) (fits-widens z rounded-fits)
         (K .value (S .sign) (S .count) Q same-value

@@ -10,17 +10,17 @@ use lib.IntN.{pos}
 use lib.Dec.{T, leb}
 use lib.Pow.{pow-add, pow-pos, pow-mono}
 use lib.Ieee.{Float, nan, fin, binary32, fits, isNan, toBits, ofBits}
-use lib.Ieee.Bits.{ofBits-toBits}
+use lib.Ieee.Bits.{is-true, ofBits-toBits}
 use lib.Ieee.Exact.{HasValue}
+use lib.Ieee.Scale.{finite}
 use borrow.Author.Count.{below-more}
 use borrow.Author.Tests.{leb-true}
 use Rattle.ieee.specs.Limit.{within, Bounded}
 use Rattle.ieee.specs.Pattern.{bare, digitsOf, dropsOf}
 use Rattle.ieee.proofs.Value.{rescale}
 use Rattle.ieee.proofs.Bounds.{bounded-finite, within→bounded}
-use Rattle.ieee.proofs.Pattern.{read-value}
+use Rattle.ieee.proofs.Pattern.{finite-number, read-value}
 use Rattle.flatten.specs.Level.{Level, Coordinates, QuadCoordinates, Near, AllNear}
-use Rattle.flatten.proofs.Exact.{finite-number}
 
 -- ---- +0
 zero-is : ofBits binary32 0 ≡ fin false 0 (pos 0)
@@ -81,7 +81,7 @@ module _ (x : Float) (r : Bool) (is : r ≡ within (ofBits binary32 0x4a80_0000)
   inside = within→bounded (2 ^ 22) (ofBits binary32 0x4a80_0000) x limit (sym is ∙ passed)
 
   pub inside-number : T (not (isNan x))
-  inside-number = finite-number x (bounded-finite (2 ^ 22) x inside)
+  inside-number = finite-number x (is-true (finite x) (bounded-finite (2 ^ 22) x inside))
 
   pub near-zero : (top : ℕ) → fits binary32 x ≡ true → toBits binary32 x ≡ 0 → Near (163 - top / 2 ^ 23) x
   near-zero top f e = record { level = level-zero (163 - top / 2 ^ 23) x (subst T (sym f) tt) e; bounded = inside }

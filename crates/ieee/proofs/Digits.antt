@@ -1,7 +1,7 @@
 -- Whole numbers by their binary digits: powers of two and of four, the number of digits, and odd numbers. Assumes nothing.
 use mathlib.Core.Path.{_≡_, refl, sym, ap, _∙_, subst}
 use Prim.Native.Nat.{ℕ, zero, suc, _+_, _-_, _*_, _/_, _%_, _^_, _≤_, _<_}
-use native.Mathlib.Nat.{le-trans, le-of-eq, le-of-lt, lt-of-lt-of-le, lt-of-le-of-lt, lt-of-not-le, not-le-of-lt, le-of-suc-le-suc, zero-lt-suc, mul-one, mul-comm, mul-assoc, mul-left-comm, mul-mul-mul-comm, mul-le-mul, mul-le-mul-left, mul-le-mul-right, mul-lt-mul-of-pos-right, mul-pos, mul-sub, add-sub-of-le, eq-of-mul-eq-mul-right, div-lt-iff-lt-mul, le-div-iff-mul-le, pow-suc, pow-succ'}
+use native.Mathlib.Nat.{le-trans, le-antisymm, le-of-eq, le-of-lt, lt-of-lt-of-le, lt-of-le-of-lt, lt-of-not-le, not-le-of-lt, le-of-suc-le-suc, zero-lt-suc, mul-one, mul-comm, mul-assoc, mul-left-comm, mul-mul-mul-comm, mul-le-mul, mul-le-mul-left, mul-le-mul-right, mul-lt-mul-of-pos-right, mul-pos, mul-sub, add-sub-of-le, eq-of-mul-eq-mul-right, div-lt-iff-lt-mul, le-div-iff-mul-le, pow-suc, pow-succ'}
 use native.Mathlib.Omega.{arith}
 use lib.Pow.{pow-add, pow-pos, pow-mono, pow-lt, shl-lt}
 use lib.Ieee.{size}
@@ -59,6 +59,9 @@ sub-shift z p t x h e = omega arith
 -- ---- how many digits
 pub size-gt : (n j : ℕ) → 2 ^ j ≤ n → j < size n
 size-gt n j h = lt-of-not-le (λ (g : size n ≤ j). not-le-of-lt (lt-of-lt-of-le (size-lt n) (pow-mono g)) h)
+
+pub size-is : (n j : ℕ) → 2 ^ j ≤ n → n < 2 ^ suc j → size n ≡ suc j
+size-is n j lo hi = le-antisymm (size-le n (suc j) hi) (size-gt n j lo)
 
 pub size-mono : (a b : ℕ) → a ≤ b → size a ≤ size b
 size-mono a b h = size-le a (size b) (lt-of-le-of-lt h (size-lt b))

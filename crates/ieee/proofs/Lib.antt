@@ -16,6 +16,7 @@ pub mod Counted
 pub mod Limits
 pub mod Order
 pub mod Monotone
+pub mod Zeros
 pub mod Whole
 pub mod Choice
 pub mod Isqrt

@@ -163,7 +163,7 @@ module _ (q k : ℕ) (q-le : q ≤ 2 ^ 24) (full : 0 < k → 2 ^ 23 ≤ q) where
   ]
 
 -- ---- a float by its own pattern
-finite-number : (x : Float) → finite x ≡ true → T (not (isNan x))
+pub finite-number : (x : Float) → finite x ≡ true → T (not (isNan x))
 unfolding isNan
 finite-number nan h = absurd (subst T (sym h) tt)
 finite-number (inf s) h = tt

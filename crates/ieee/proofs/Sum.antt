@@ -31,6 +31,12 @@ sum-same f s t a b c a' b' c' C C' p q =
     (round f (s && ltb-same b a c b' a' c' q p C C' i) (a - b) c)))
     ∙ ap (λ (x : Float). cond (Bool·beq s t) (round f s (a' + b') c') (cond (ltb a' b') (round f t (b' - a') c') x)) (round-same f (s && ltb b' a') (a - b) c (a' - b') c' C C' (minus-same a b c a' b' c' p q))
 
+-- two of one sign
+pub sum-alike : (f : Format) (s : Bool) (a b c : ℕ) → sum f s a s b c ≡ round f s (a + b) c
+unfolding sum
+sum-alike f true a b c = refl
+sum-alike f false a b c = refl
+
 -- ---- ±a / c + ±b / c, rounded once. Which total is rounded does not turn on the format
 pub record SumOf (s : Bool) (a : ℕ) (t : Bool) (b c : ℕ) : Type 0 where
   pub sign : Bool

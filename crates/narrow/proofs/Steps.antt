@@ -1,23 +1,22 @@
 -- A number of 53 digits, with 2 ^ 29 times the power of two below it added and taken away again, is the number cut to 24 digits. Assumes nothing.
 use mathlib.Core.Path.{_≡_, refl, sym, ap, _∙_, subst}
 use Prim.Native.Nat.{ℕ, suc, _+_, _-_, _*_, _/_, _%_, _^_, _≤_, _<_, compare, Ordering, Ordering·lt, Ordering·eq, Ordering·gt}
-use native.Mathlib.Nat.{le-trans, le-refl, le-antisymm, lt-of-lt-of-le, lt-of-le-of-lt, add-mul, mul-right-comm, mul-pos}
+use native.Mathlib.Nat.{le-trans, le-refl, lt-of-lt-of-le, lt-of-le-of-lt, add-mul, mul-right-comm, mul-pos}
 use native.Mathlib.Omega.{arith}
 use mathlib.Core.Bool.{Bool, true, false, not}
 use lib.Dec.{lit<}
 use lib.Pow.{pow-pos, pow-mono, shl-lt}
 use lib.Ieee.{Float, Format, binary64, size, nearest, round, sum, add, sub, mul, neg, ofBits}
-use lib.Ieee.Digits.{size-le}
 use lib.Ieee.Exact.{HasValue}
 use lib.Ieee.Nearest.{closest}
 use Rattle.ieee.specs.Cut.{cut}
-use Rattle.ieee.proofs.Digits.{size-gt}
+use Rattle.ieee.proofs.Digits.{size-is}
 use Rattle.ieee.proofs.Closest.{closest-ge, closest-le}
 use Rattle.ieee.proofs.Cut.{cut-is, cut-exact, cut-scale}
 use Rattle.ieee.proofs.Value.{neg-val}
 use Rattle.ieee.proofs.Round.{round-cut}
 use Rattle.ieee.proofs.Signed.{P, N}
-use Rattle.ieee.proofs.Sum.{sum-of}
+use Rattle.ieee.proofs.Sum.{sum-alike, sum-of}
 use Rattle.ieee.proofs.Operations.{unlike-false, add-at, sub-is, mul-at}
 
 -- ---- whole numbers: 2 ^ 81 + Q, cut to 53 digits, is 2 ^ 81 and Q cut to 24
@@ -31,9 +30,6 @@ closest-more Q =
     let d : (Q + 2 ^ 81) / 2 ^ 29 ≡ Q / 2 ^ 29 + 2 ^ 52 = omega arith in
     let r : (Q + 2 ^ 81) % 2 ^ 29 ≡ Q % 2 ^ 29 = omega arith in
     (λ i. nearest (d i) (compare (r i * 2) (2 ^ 29))) ∙ nearest-more (Q / 2 ^ 29) (compare (Q % 2 ^ 29 * 2) (2 ^ 29))
-
-size-is : (n j : ℕ) → 2 ^ j ≤ n → n < 2 ^ suc j → size n ≡ suc j
-size-is n j lo hi = le-antisymm (size-le n (suc j) hi) (size-gt n j lo)
 
 -- the leading 24 digits of a number of 53
 abbrev pub lead : ℕ → ℕ
@@ -58,12 +54,7 @@ module _ (Q : ℕ) (lo : 2 ^ 52 ≤ Q) (hi : Q < 2 ^ 53) where
       ∙ ap (λ (z : ℕ). z * 2 ^ 29) (closest-more Q)
       ∙ add-mul (lead Q) (2 ^ 52) (2 ^ 29)
 
--- ---- sums of two numbers with the same sign, and with opposite signs, the first of them the larger
-sum-alike : (f : Format) (s : Bool) (a b c : ℕ) → sum f s a s b c ≡ round f s (a + b) c
-unfolding sum
-sum-alike f true a b c = refl
-sum-alike f false a b c = refl
-
+-- ---- the sum of two numbers with opposite signs, the first of them the larger
 larger : (s r : Bool) (a b x : ℕ) → b < a → P r x + (N s a + N (not s) b) ≡ N r x + (P s a + P (not s) b) → (r ≡ s) × (x ≡ a - b)
 larger true true a b x h e = (refl, omega arith)
 larger true false a b x h e = absurd (omega arith)

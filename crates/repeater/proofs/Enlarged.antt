@@ -23,7 +23,7 @@ use Rattle.ieee.proofs.Operations.{sub-is, add-at, fma-at}
 use Rattle.ieee.proofs.Value.{rescale, neg-val}
 use Rattle.ieee.proofs.Comparison.{lt-at}
 use Rattle.ieee.proofs.Grid.{weaken, big-on}
-use Rattle.ieee.proofs.Twins.{twin-weaken, twin-neg, twin-add, twin-add-absorb-right, twin-mul, twin-mul-right}
+use Rattle.ieee.proofs.Twins.{zero-twin, twin-weaken, twin-neg, twin-add, twin-add-absorb-right, twin-mul, twin-mul-right}
 use Rattle.ieee.proofs.Bounds.{within→bounded, add-bounded, round-bounded, reach-whole}
 use Rattle.count.specs.Count.{countDown, countUp}
 use Rattle.repeater.specs.declared.Matrix.{Matrix}
@@ -82,10 +82,6 @@ direction-weight : (inverse : Bool) → On 0 0 (direction inverse)
 unfolding neg ofBits
 direction-weight true = record { sign = true; count = 1; value = (refl, refl); bound = lit≤ tt }
 direction-weight false = one-weight
-
-zero-twin : (k b : ℕ) → Twin k 56 b zero32 zero32
-unfolding ofBits ofFields
-zero-twin k b = record { grid = weaken 0 0 56 b zero32 (lit≤ tt) (omega arith) zero-weight; is = refl }
 
 one-one : one32 ⊗ one32 ≡ one32
 unfolding span climb size odd units round mul ofFields ofBits
@@ -194,7 +190,7 @@ module _ {k : ℕ} (K : k ≤ 6) where
         along-twin (omega arith)
         (twin-weaken k 10 13 56 15 (neg ax) (neg ax') (lit≤ tt) (lit≤ tt) (twin-neg k 10 13 ax ax' A))
         (twin-weaken k 10 13 56 15 (neg ay) (neg ay') (lit≤ tt) (lit≤ tt) (twin-neg k 10 13 ay ay' B))
-        (along-twin (omega arith) (twin-weaken k 10 13 56 14 ax ax' (lit≤ tt) (lit≤ tt) A) (twin-weaken k 10 13 56 14 ay ay' (lit≤ tt) (lit≤ tt) B) (along-twin (omega arith) X Y (zero-twin k 14)))
+        (along-twin (omega arith) (twin-weaken k 10 13 56 14 ax ax' (lit≤ tt) (lit≤ tt) A) (twin-weaken k 10 13 56 14 ay ay' (lit≤ tt) (lit≤ tt) B) (along-twin (omega arith) X Y (zero-twin k 56 14)))
 
   -- ---- a step
   part-twin : {p p' percent : Float} (inverse : Bool) → On 46 0 percent → Twin k 10 13 p p' → Twin k 56 13 (stepShift p percent inverse) (stepShift p' percent inverse)
@@ -291,7 +287,7 @@ whole-on : On 46 0 one32
 whole-on = weaken 0 0 46 0 one32 (lit≤ tt) (lit≤ tt) one-weight
 
 identity-moved : (k : ℕ) → Moved k 56 43 identity identity
-identity-moved k = record { shape = refl; shape' = refl; e-twin = zero-twin k 43; f-twin = zero-twin k 43 }
+identity-moved k = record { shape = refl; shape' = refl; e-twin = zero-twin k 56 43; f-twin = zero-twin k 56 43 }
 
 moved-choice : {k q b : ℕ} {m m' n n' : Matrix} (t : Bool) → (t ≡ true → Moved k q b m m') → Moved k q b n n' → Moved k q b (cond t m n) (cond t m' n')
 moved-choice true M N = M refl

@@ -1,6 +1,5 @@
 -- What the proofs of `repeater` cite.
 pub mod Ways
-mod Zeros
 mod Upright
 pub mod Enlarged
 pub mod Single

@@ -13,11 +13,11 @@ use Rattle.ieee.specs.Operators.{_⊕_, _⊗_}
 use Rattle.ieee.specs.Sign.{isZero}
 use Rattle.ieee.proofs.Operations.{mul-finite}
 use Rattle.ieee.proofs.Single.{zero-single}
+use Rattle.ieee.proofs.Zeros.{Plus, zero-plus, above-plus, level-zero, add-zero-right, add-zero-left, mul-plus, mul-zero-right, mul-zero-left}
 use Rattle.repeater.specs.declared.Matrix.{Matrix}
 use Rattle.repeater.specs.Matrix.{concat}
 use Rattle.repeater.specs.Repeater.{steps}
 use Rattle.repeater.specs.Upright.{isUpright, uprightConcat, uprightSteps}
-use Rattle.repeater.proofs.Zeros.{Plus, zero-plus, above-plus, level-zero, add-zero-right, add-zero-left, mul-plus, mul-zero-right, mul-zero-left}
 
 -- ---- the test
 record Upright (m : Matrix) : Type 0 where

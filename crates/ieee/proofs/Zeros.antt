@@ -1,4 +1,4 @@
--- Zeros added to and multiplied with finite numbers that have a clear sign, and what the tests for such numbers say. Assumes nothing.
+-- Zeros: rounded, and added to and multiplied with finite numbers that have a clear sign; and what the tests for such numbers say. Assumes nothing.
 use mathlib.Core.Path.{_≡_, refl, sym, ap, _∙_, subst}
 use mathlib.Core.Bool.{Bool, true, false, cond}
 use Prim.Native.Nat.{ℕ, zero, suc, _-_, _*_, _<_}
@@ -12,11 +12,26 @@ use lib.Ieee.Exact.{HasValue}
 use lib.Ieee.Fits.{up-pos, and-l}
 use lib.Ieee.Positive.{num, den, den-pos}
 use lib.Ieee.Scale.{finite, grid, round-val, round-under}
 use Rattle.ieee.specs.Literal.{zero32}
 use Rattle.ieee.specs.Sign.{isZero}
 use Rattle.ieee.proofs.Round.{round-own}
 use Rattle.ieee.proofs.Operations.{add-at, mul-at}
 use Rattle.ieee.proofs.Monotone.{zero-is}
+
+-- ---- the zero of a sign
+abbrev pub zero-of : Bool → Float
+zero-of s = fin s 0 (pos 0)
+
+pub zero-fits : (f : Format) (s : Bool) → T (fits f (zero-of s))
+unfolding fits
+zero-fits f true = tt
+zero-fits f false = tt
+
+pub zero-has : (s : Bool) (c : ℕ) → HasValue (zero-of s) s 0 c
+zero-has s c = (refl, zero-mul c)
+
+pub round-zero : (f : Format) (s : Bool) (n c : ℕ) → n ≡ 0 → 0 < c → round f s n c ≡ zero-of s
+round-zero f s n c e h = ap (λ (k : ℕ). round f s k c) e ∙ round-own f (zero-of s) s 0 c (zero-fits f s) h (zero-has s c)
 
 -- ---- finite, with a clear sign
 abbrev pub Plus : Float → Type 0
@@ -107,23 +122,18 @@ mul-plus f x y p q h =
     let e = mul-at f x y false false (num x) (den x) (num y) (den y) (den-pos x) (den-pos y) (plus-value x p) (plus-value y q) in
     subst Plus (sym e) (value-plus (round f false a c) (grid f a c) _ (round-val f a c (round-under f a c (subst T (sym (ap finite (sym e) ∙ h)) tt))))
 
-round-zero : (f : Format) (s : Bool) (c : ℕ) → 0 < c → round f s 0 c ≡ fin s 0 (pos 0)
-round-zero f s c C = round-own f (fin s 0 (pos 0)) s 0 c (unfold fits in tt) C (refl, no-part 1 c 1)
-
 -- the product with a zero of either sign is a zero
 pub mul-zero-right : (f : Format) (x z : Float) → Plus x → isZero z ≡ true → isZero (mul f x z) ≡ true
 mul-zero-right f x z p h =
     let w = zero-value z h 1 in
     ap isZero
     (mul-at f x z false (w .0) (num x) (den x) 0 1 (den-pos x) (zero-lt-suc 0) (plus-value x p) (w .1)
-    ∙ ap (λ (n : ℕ). round f (unlike false (w .0)) n (den x * 1)) (mul-zero (num x))
-    ∙ round-zero f (unlike false (w .0)) (den x * 1) (mul-pos (den-pos x) (zero-lt-suc 0)))
+    ∙ round-zero f (unlike false (w .0)) (num x * 0) (den x * 1) (mul-zero (num x)) (mul-pos (den-pos x) (zero-lt-suc 0)))
 
 -- that of +0 is +0
 pub mul-zero-left : (f : Format) (z x : Float) → z ≡ zero32 → Plus x → mul f z x ≡ zero32
 mul-zero-left f z x z-is p =
     ap (λ (y : Float). mul f y x) (z-is ∙ zero-is)
     ∙ mul-at f (fin false 0 (pos 0)) x false false 0 1 (num x) (den x) (zero-lt-suc 0) (den-pos x) (refl, refl) (plus-value x p)
-    ∙ ap (λ (n : ℕ). round f false n (1 * den x)) (zero-mul (num x))
-    ∙ round-zero f false (1 * den x) (mul-pos (zero-lt-suc 0) (den-pos x))
+    ∙ round-zero f false (0 * num x) (1 * den x) (zero-mul (num x)) (mul-pos (zero-lt-suc 0) (den-pos x))
     ∙ sym zero-is
