@@ -3,11 +3,12 @@ ghost use mathlib.Core.Path.{_≡_};
 ghost use Rattle.trim.specs.Trim as spec;
 ghost use Rattle.trim.specs.Ranges.{rangeCount};
 
-// A trim, sampled: start and end in per cent, the offset in degrees, and the mode.
+// A trim, sampled: start and end in per cent, the offset in degrees, and the mode. Start and end stand apart: side by side
+// they would be stored one by one and then read as one, for which a processor waits.
 pub struct TrimStyle {
     pub start: f32,
-    pub end: f32,
     pub offset_degrees: f32,
+    pub end: f32,
     pub mode: u8,
 }
 
