@@ -4,7 +4,7 @@ use Prim.Native.Nat.{ℕ, _+_, _-_, _*_, _%_, _^_, _≤_, _<_}
 use native.Mathlib.Nat.{le-antisymm}
 use native.Mathlib.Numerals.{add-one}
 use native.Mathlib.Omega.{arith}
-use mathlib.Core.Bool.{Bool, true, false, not, _&&_}
+use mathlib.Core.Bool.{Bool, true, false, not, _&&_, and-true, and-assoc}
 use mathlib.Core.List.{List}
 use lib.Dec.{T, leb}
 use lib.Ieee.{Float, nan, binary32, units, neg, lt, le, ne, fits, isNan, ofBits, toBits, nanBits}
@@ -159,7 +159,7 @@ within-not limit x h = sym (within-both x limit ∙ ap (λ (b : Bool). b && le (
 
 pub ruleset ways = (is-number, pattern-fits, split-nan, split-inf, split-finite, ok-minus, ok-plus, signed-minus, signed-plus, encode-finite, encode-inf, abs-nan, abs-ok, abs-number, min-first, min-beside-nan, min-second, max-first, max-beside-nan, max-second, at-least-low, at-least-stay, clamp-high, clamp-stay, within-low, within-not)
 
--- ---- all_within
+-- ---- few_within
 -- the numbers from place i on are still to be judged, and settle the answer
 abbrev pub Left : Float → List Float → ℕ → Type 0
 Left limit v i = allWithin limit (drop i v) ≡ allWithin limit v
@@ -178,4 +178,21 @@ module _ (limit : Float) (v : List Float) (i : ℕ) (left : Left limit v i) wher
   unfolding allWithin
   within-all h = rw (drop-of-length-le v {i = i} h) at left
 
-pub ruleset limits = (within-more, beyond-here, within-all)
+-- ---- many_within
+-- the numbers before place i are judged, and those from there on are still to be
+abbrev pub Rest : Float → List Float → Bool → ℕ → Type 0
+Rest limit v so-far i = (so-far && allWithin limit (drop i v)) ≡ allWithin limit v
+
+pub rest-first : (limit : Float) (v : List Float) → Rest limit v true 0
+rest-first limit v = refl
+
+module _ (limit : Float) (v : List Float) (so-far : Bool) (i : ℕ) (rest : Rest limit v so-far i) where
+  pub rest-more : (t : Bool) → t ≡ within limit (getD v i nan) → i < length v → Rest limit v (so-far && t) (i + 1)
+  unfolding allWithin
+  rest-more t is h = and-assoc so-far t (allWithin limit (drop (i + 1) v)) ∙ rw (add-one, is) (rw (drop-cons v i nan h) at rest)
+
+  pub rest-all : length v ≤ i → so-far ≡ allWithin limit v
+  unfolding allWithin
+  rest-all h = sym (and-true so-far) ∙ rw (drop-of-length-le v {i = i} h) at rest
+
+pub ruleset limits = (within-more, beyond-here, within-all, rest-first, rest-more, rest-all)

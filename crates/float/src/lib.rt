@@ -149,8 +149,8 @@ pub fn is_within(x: f32, limit: f32) -> bool
     if x <= limit { -limit <= x } else { false }
 }
 
-// Whether each number is at most `limit` in absolute value.
-pub fn all_within(numbers: &[f32], limit: f32) -> bool
+// Whether each number is at most `limit` in absolute value, up to the first that is not.
+fn few_within(numbers: &[f32], limit: f32) -> bool
     ensures { λ r. ⌜ r ≡ allWithin limit (now (numbers .entry)) ⌝ }
 {
     let mut i: usize = 0;
@@ -162,4 +162,28 @@ pub fn all_within(numbers: &[f32], limit: f32) -> bool
         }
     }
     true
+}
+
+// The same with no way out before the end, so that the compiler can use vectors.
+fn many_within(numbers: &[f32], limit: f32) -> bool
+    ensures { λ r. ⌜ r ≡ allWithin limit (now (numbers .entry)) ⌝ }
+{
+    let mut so_far = true;
+    let mut k: usize = 0;
+    while k < numbers.len() {
+        so_far = so_far & is_within(numbers[k], limit);
+        k += 1;
+    }
+    so_far
+}
+
+// Whether each number is at most `limit` in absolute value.
+pub fn all_within(numbers: &[f32], limit: f32) -> bool
+    ensures { λ r. ⌜ r ≡ allWithin limit (now (numbers .entry)) ⌝ }
+{
+    if numbers.len() < 16 {
+        few_within(numbers, limit)
+    } else {
+        many_within(numbers, limit)
+    }
 }

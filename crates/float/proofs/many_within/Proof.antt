@@ -1,16 +1,16 @@
--- `float::all_within` meets its contract. Assumes nothing.
+-- `float::many_within` meets its contract. Assumes nothing.
+use Rattle.float.proofs.Ways.{Rest, limits}
 use borrow.Author.Needs.{needs}
 use Prim.Native.Nat.{_-_}
 use lib.ListN.{length}
-use Rattle.float.proofs.Ways.{Left, limits}
-use Rattle.float.proofs.all_within.Statement.{statement}
-use Rattle.float.proofs.all_within.Tie as tie
+use Rattle.float.proofs.many_within.Statement.{statement}
+use Rattle.float.proofs.many_within.Tie as tie
 
 abbrev Inv-loop : tie.InvT-loop
-Inv-loop numbers limit i₀ i = Left limit numbers i
+Inv-loop numbers limit so-far₀ k₀ so-far k = Rest limit numbers so-far k
 
 abbrev μ-loop : tie.MeasureT-loop
-μ-loop numbers limit i₀ i = length numbers - i
+μ-loop numbers limit so-far₀ k₀ so-far k = length numbers - k
 
 loop-holds : tie.Need-loop-holds Inv-loop μ-loop
 loop-holds c = search (needs, limits)
@@ -24,8 +24,8 @@ shared-slice-read-is-within c = search (needs, limits)
 is-within-requires : tie.Need-is-within-requires Inv-loop μ-loop
 is-within-requires c κs = search (needs, limits)
 
-add-i : tie.Need-add-i Inv-loop μ-loop
-add-i c = search (needs, limits)
+add-k : tie.Need-add-k Inv-loop μ-loop
+add-k c = search (needs, limits)
 
 loop-less : tie.Need-loop-less Inv-loop μ-loop
 loop-less c = search (needs, limits)
@@ -36,11 +36,8 @@ loop-again c = search (needs, limits)
 returns : tie.Need-returns Inv-loop μ-loop
 returns c = search (needs, limits)
 
-returns-2 : tie.Need-returns-2 Inv-loop μ-loop
-returns-2 c = search (needs, limits)
-
-pub all-within-spec : {M : Type 1} → statement M
-all-within-spec =
+pub many-within-spec : {M : Type 1} → statement M
+many-within-spec =
     tie.close
     (tie.spec
     Inv-loop
@@ -49,8 +46,7 @@ all-within-spec =
     mul-is-within
     shared-slice-read-is-within
     is-within-requires
-    add-i
+    add-k
     loop-less
     loop-again
-    returns
-    returns-2)
+    returns)
