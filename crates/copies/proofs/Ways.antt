@@ -41,13 +41,13 @@ use Rattle.copies.specs.Calls.{repeaterNumbers, hasTooMany, repeaterLimi
 
 -- ---- verdict_of
 module _ (r : RepeaterStyle) where
-  pub many-copies : lt mostOffset (r .copies) ≡ true → true ≡ hasTooMany r
-  unfolding hasTooMany
-  many-copies h = rw h
-
   pub many-offset : lt mostOffset (r .copies) ≡ false → (a : Float) → a ≡ abs (r .offset) → lt mostOffset a ≡ hasTooMany r
   unfolding hasTooMany
   many-offset h a e = ap (lt mostOffset) e ∙ rw h
+
+  pub many-copies : lt mostOffset (r .copies) ≡ true → true ≡ hasTooMany r
+  unfolding hasTooMany
+  many-copies h = rw h
 
   module _ (x : Bool) (x-is : x ≡ hasTooMany r) where
     pub verdict-many : x ≡ true → Fault TooMany ≡ verdictOf r
