@@ -3,7 +3,8 @@
 use mathlib.Core.Path.{_≡_, refl, sym, ap, _∙_}
 use Prim.Native.Nat.{ℕ, zero, suc, _+_, _-_, _*_, _/_, _%_, _^_, _≤_, _<_, compare, Ordering, Ordering·lt, Ordering·eq, Ordering·gt}
 use mathlib.Core.Logic.{inl, inr}
-use native.Mathlib.Nat.{le-of-lt, le-of-eq, eq-or-lt-of-le, add-zero, zero-mul, zero-lt-suc, div-eq-of-eq-mul-left, div-eq-of-lt-le, add-mul-div-right, add-mul-mod-self-right}
+use native.Mathlib.Nat.{le-of-lt, le-of-eq, eq-or-lt-of-le, add-zero, zero-mul, zero-lt-suc}
+use native.Mathlib.Nat.{div-eq-of-eq-mul-left, div-eq-of-lt-le, add-mul-div-right, add-mul-mod-self-right}
 use native.Mathlib.Omega.{arith}
 use mathlib.Core.Bool.{Bool, true, false, cond}
 use borrow.Author.Tests.{le-ltb, lt-ltb}

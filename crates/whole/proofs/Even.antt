@@ -1,12 +1,12 @@
--- A size of at most 2 ^ 22, with 2 ^ 23 added and taken away again, is the whole number closest to it, a half to the even one. Assumes nothing.
+-- A size below 2 ^ 23, with 2 ^ 23 added and taken away again, is the whole number closest to it, a half to the even one. Assumes nothing.
 use mathlib.Core.Path.{_≡_, refl, sym, ap, _∙_, subst}
 use Prim.Native.Nat.{ℕ, _+_, _-_, _*_, _^_, _≤_, _<_}
-use native.Mathlib.Nat.{le-refl, le-trans, le-of-eq, lt-of-le-of-lt, lt-of-lt-of-le, le-add-left, add-sub-cancel, mul-one, mul-assoc}
+use native.Mathlib.Nat.{le-refl, le-trans, le-of-eq, le-of-lt, lt-of-le-of-lt, lt-of-lt-of-le, le-add-left, add-sub-cancel, mul-one, mul-assoc}
 use native.Mathlib.Omega.{arith}
 use mathlib.Core.Bool.{Bool, true, false, cond}
 use borrow.Author.Tests.{le-ltb}
 use lib.Dec.{lit<, lit≤}
-use lib.Pow.{pow-pos, pow-mono, pow-lt, shl-lt}
+use lib.Pow.{pow-pos, pow-mono, shl-lt}
 use lib.Ieee.{Float, binary32, round, sum, add, sub, neg, ofBits}
 use lib.Ieee.Exact.{HasValue, round-exact}
 use lib.Ieee.Nearest.{closest, closest-mono}
@@ -58,29 +58,22 @@ pub one-value : HasValue one32 false 1 1
 unfolding ofBits
 one-value = (refl, refl)
 
--- ---- whole numbers
-with-shift : (k : ℕ) → k ≤ 2 ^ 22 → k + 2 ^ 23 < 2 ^ 24
-with-shift k h = omega arith
-
-doubled : (n a : ℕ) → n < a → n + a < 2 * a
-doubled n a h = omega arith
-
 -- ---- sums
 pub sum-minus : (a b c : ℕ) → b ≤ a → sum binary32 false a true b c ≡ round binary32 false (a - b) c
 unfolding sum
 sum-minus a b c h = ap (λ (t : Bool). cond t (round binary32 true (b - a) c) (round binary32 false (a - b) c)) (le-ltb a b h)
 
 -- ---- whole numbers and halves are floats
-room : (k j : ℕ) → k < 2 ^ 24 → j ≤ 149 → k * 2 ^ j < 2 ^ 277
-room k j h l = let m : 24 + j ≤ 277 = omega arith in lt-of-lt-of-le (shl-lt 24 j h) (pow-mono m)
+room : (k j : ℕ) → k ≤ 2 ^ 24 → j ≤ 149 → k * 2 ^ j < 2 ^ 277
+room k j h l = let m : 25 + j ≤ 277 = omega arith in lt-of-lt-of-le (shl-lt 25 j (lt-of-le-of-lt h (lit< tt))) (pow-mono m)
 
 pub whole-value : (s : Bool) (k : ℕ) → k < 2 ^ 24 → HasValue (round binary32 s k 1) s k 1
-whole-value s k h = round-exact binary32 s k 1 k 149 (lit< tt) h (room k 149 h (lit≤ tt)) (sym (mul-one (k * 2 ^ 149)))
+whole-value s k h = round-exact binary32 s k 1 k 149 (lit< tt) h (room k 149 (le-of-lt h) (lit≤ tt)) (sym (mul-one (k * 2 ^ 149)))
 
 pub half-up-value : (k : ℕ) → k < 2 ^ 23 → HasValue (round binary32 false (2 * k + 1) 2) false (2 * k + 1) 2
 half-up-value k h =
     let l : 2 * k + 1 < 2 ^ 24 = omega arith in
-    round-exact binary32 false (2 * k + 1) 2 (2 * k + 1) 148 (lit< tt) l (room (2 * k + 1) 148 l (lit≤ tt)) (sym (mul-assoc (2 * k + 1) (2 ^ 148) 2))
+    round-exact binary32 false (2 * k + 1) 2 (2 * k + 1) 148 (lit< tt) l (room (2 * k + 1) 148 (le-of-lt l) (lit≤ tt)) (sym (mul-assoc (2 * k + 1) (2 ^ 148) 2))
 
 -- ---- from the value of a whole number
 module _ (r : Float) (k : ℕ) where
@@ -88,7 +81,9 @@ module _ (r : Float) (k : ℕ) where
   next s v o w = add-at binary32 r o s s k 1 1 (lit< tt) v w ∙ sum-alike binary32 s k 1 1
 
   pub half-up : HasValue r false k 1 → add binary32 r half32 ≡ round binary32 false (2 * k + 1) 2
-  half-up v = add-at binary32 r half32 false false (2 * k) 1 2 (lit< tt) (rescale r false k 1 (2 * k) 2 (lit< tt) (omega arith) v) half-value ∙ sum-alike binary32 false (2 * k) 1 2
+  half-up v =
+      add-at binary32 r half32 false false (2 * k) 1 2 (lit< tt) (rescale r false k 1 (2 * k) 2 (lit< tt) (omega arith) v) half-value
+      ∙ sum-alike binary32 false (2 * k) 1 2
 
 -- ---- a size of n / U
 abbrev pub U : ℕ
@@ -97,14 +92,23 @@ U = 2 ^ 149
 pub U-pos : 0 < U
 U-pos = pow-pos 149
 
-module _ (x : Float) (n : ℕ) (v : HasValue x false n U) (small : n ≤ 2 ^ 171) where
-  pub closest-small : closest n U ≤ 2 ^ 22
-  closest-small = le-trans (closest-mono n U (2 ^ 22) 1 U-pos (lit< tt) (le-trans (le-of-eq (mul-one n)) small)) (le-of-eq (closest-exact (2 ^ 22) 1 (lit< tt)))
+-- below 2 ^ 23 it goes to a whole number of at most 2 ^ 23
+pub at-most : (h : ℕ → ℕ → ℕ) → Way (λ s. h) → (n : ℕ) → n < 2 ^ 172 → h n U ≤ 2 ^ 23
+at-most h W n small =
+    le-trans (W .mono false n U (2 ^ 23) 1 U-pos (lit< tt) (le-trans (le-of-eq (mul-one n)) (le-of-lt small)))
+    (le-of-eq (W .exact false (2 ^ 23) 1 (lit< tt)))
 
+with-shift : (k : ℕ) → k ≤ 2 ^ 23 → k + 2 ^ 23 ≤ 2 ^ 24
+with-shift k h = omega arith
+
+doubled : (n a : ℕ) → n < a → n + a < 2 * a
+doubled n a h = omega arith
+
+module _ (x : Float) (n : ℕ) (v : HasValue x false n U) (small : n < 2 ^ 172) where
   cut-24 : cut 24 (n + 2 ^ 172) ≡ (closest n U + 2 ^ 23) * U
   cut-24 =
       let l : 2 ^ 172 ≤ n + 2 ^ 172 = le-add-left (2 ^ 172) n in
-      let h : n + 2 ^ 172 < 2 ^ 173 = doubled n (2 ^ 172) (lt-of-le-of-lt small (pow-lt {i = 171} {j = 172} (lit< tt))) in
+      let h : n + 2 ^ 172 < 2 ^ 173 = doubled n (2 ^ 172) small in
       cut-is 24 (n + 2 ^ 172)
       ∙ ap (λ (z : ℕ). closest (n + 2 ^ 172) (2 ^ (z - 24)) * 2 ^ (z - 24)) (size-is (n + 2 ^ 172) 172 l h)
       ∙ ap (λ (z : ℕ). z * U) (closest-more n U U-pos)
@@ -112,12 +116,13 @@ module _ (x : Float) (n : ℕ) (v : HasValue x false n U) (small : n ≤ 2 ^ 171
   there : HasValue (add binary32 x shift32) false (closest n U + 2 ^ 23) 1
   there =
       let k = closest n U + 2 ^ 23 in
-      let l : closest n U + 2 ^ 23 < 2 ^ 24 = with-shift (closest n U) closest-small in
+      let l : closest n U + 2 ^ 23 ≤ 2 ^ 24 = with-shift (closest n U) (at-most closest even-way n small) in
       rescale (add binary32 x shift32) false (k * U) U k 1 U-pos (sym (mul-one (k * U)))
       (subst (λ (y : Float). HasValue y false (k * U) U)
       (sym (add-at binary32 x shift32 false false n (2 ^ 172) U U-pos v shift-units ∙ sum-alike binary32 false n (2 ^ 172) U))
       (subst (λ (z : ℕ). HasValue (round binary32 false (n + 2 ^ 172) U) false z U) cut-24
-      (round-cut binary32 false (n + 2 ^ 172) U 149 (n + 2 ^ 172) U-pos (le-refl 149) refl (subst (λ (z : ℕ). z < 2 ^ 277) (sym cut-24) (room k 149 l (lit≤ tt))))))
+      (round-cut binary32 false (n + 2 ^ 172) U 149 (n + 2 ^ 172) U-pos (le-refl 149) refl
+      (subst (λ (z : ℕ). z < 2 ^ 277) (sym cut-24) (room k 149 l (lit≤ tt))))))
 
   back : sub binary32 (add binary32 x shift32) shift32 ≡ round binary32 false (closest n U) 1
   back =

@@ -1,7 +1,8 @@
 -- From the nearest whole number with a half to the even one, one test leads to `round`, and one to `floor`. Assumes nothing.
 use mathlib.Core.Path.{_≡_, refl, sym, ap, _∙_, subst}
 use Prim.Native.Nat.{ℕ, _+_, _*_, _^_, _≤_, _<_}
-use native.Mathlib.Nat.{lt-of-le-of-lt, mul-one, mul-assoc}
+use mathlib.Core.Logic.{inl, inr}
+use native.Mathlib.Nat.{lt-of-le-of-lt, eq-or-lt-of-le, ne-of-lt, mul-one, mul-assoc}
 use native.Mathlib.Omega.{arith}
 use mathlib.Core.Bool.{Bool, true, false, _&&_}
 use borrow.Author.Tests.{eqb-true, eqb-false, ltb-true, ltb-false}
@@ -19,7 +20,8 @@ use Rattle.ieee.proofs.Whole.{whole-at, nearWay, near-way, near-goes, floorWay,
 use Rattle.whole.specs.Even.{roundEven}
 use Rattle.whole.specs.Small.{Small}
 use Rattle.whole.proofs.Closest.{above, near-next, near-same, down-same, down-before, up-next, up-same}
-use Rattle.whole.proofs.Even.{evenWay, even-way, even-goes, U, U-pos, half32, one-value, sum-minus, whole-value, half-up-value, next, half-up, closest-small, even-at}
+use Rattle.whole.proofs.Even.{evenWay, even-way, even-goes, even-at, U, U-pos, at-most}
+use Rattle.whole.proofs.Even.{half32, one-value, sum-minus, whole-value, half-up-value, next, half-up}
 use Rattle.whole.proofs.Signs.{signed-value}
 
 -- ---- `round`, of a size: a half that went down goes up
@@ -33,6 +35,14 @@ tie-of k h n e = omega arith
 of-tie : (k h n : ℕ) → 2 * n ≡ 2 * (k * (2 * h)) + 2 * h → (2 * k + 1) * h ≡ n
 of-tie k h n e = omega arith
 
+-- from 2 ^ 23 half a step up is 2 ^ 23 again, and no tie is left
+no-tie : (n a u : ℕ) → n < a → 2 * n ≡ 2 * a + u → ⊥
+no-tie n a u h e = omega arith
+
+last-value : HasValue (round binary32 false (2 * 2 ^ 23 + 1) 2) false (2 ^ 172) U
+unfolding round
+last-value = (refl, refl)
+
 module _ (x r : Float) (S : Small x) (e : r ≡ roundEven binary32 x) where
   abbrev n : ℕ
   n = S .units
@@ -40,8 +50,8 @@ module _ (x r : Float) (S : Small x) (e : r ≡ roundEven binary32 x) where
   abbrev k : ℕ
   k = closest n U
 
-  k-le : k ≤ 2 ^ 22
-  k-le = closest-small x n (S .value) (S .bound)
+  k-le : k ≤ 2 ^ 23
+  k-le = at-most closest even-way n (S .bound)
 
   r-is : r ≡ round binary32 false k 1
   r-is = e ∙ even-at x n (S .value) (S .bound)
@@ -49,13 +59,29 @@ module _ (x r : Float) (S : Small x) (e : r ≡ roundEven binary32 x) where
   r-value : HasValue r false k 1
   r-value = subst (λ (y : Float). HasValue y false k 1) (sym r-is) (whole-value false k (lt-of-le-of-lt k-le (lit< tt)))
 
-  middle-value : HasValue (add binary32 r half32) false ((2 * k + 1) * 2 ^ 148) U
-  middle-value =
-      rescale (add binary32 r half32) false (2 * k + 1) 2 ((2 * k + 1) * 2 ^ 148) U (lit< tt) (mul-assoc (2 * k + 1) (2 ^ 148) 2)
-      (subst (λ (y : Float). HasValue y false (2 * k + 1) 2) (sym (half-up r k r-value)) (half-up-value k (lt-of-le-of-lt k-le (lit< tt))))
+  abbrev Tie : Type 0
+  Tie = 2 * n ≡ 2 * (k * U) + U
 
-  test-is : eq (add binary32 r half32) x ≡ eqb ((2 * k + 1) * 2 ^ 148) n
-  test-is = eq-at (add binary32 r half32) x false false ((2 * k + 1) * 2 ^ 148) n U U-pos middle-value (S .value) ∙ and-true (eqb ((2 * k + 1) * 2 ^ 148) n)
+  -- the sum with a half is x just at a tie
+  middle : (m : ℕ) × HasValue (add binary32 r half32) false m U × (m ≡ n → Tie) × (Tie → m ≡ n)
+  middle = elim (eq-or-lt-of-le k-le) [
+    | inl e ↦ (
+      2 ^ 172,
+      subst (λ (y : Float). HasValue y false (2 ^ 172) U) (sym (half-up r k r-value ∙ ap (λ (z : ℕ). round binary32 false (2 * z + 1) 2) e)) last-value,
+      λ h. absurd (ne-of-lt (S .bound) (sym h)),
+      λ h. absurd (no-tie n (2 ^ 172) U (S .bound) (h ∙ ap (λ (z : ℕ). 2 * (z * U) + U) e)),
+    )
+    | inr l ↦ (
+      (2 * k + 1) * 2 ^ 148,
+      rescale (add binary32 r half32) false (2 * k + 1) 2 ((2 * k + 1) * 2 ^ 148) U (lit< tt) (mul-assoc (2 * k + 1) (2 ^ 148) 2)
+          (subst (λ (y : Float). HasValue y false (2 * k + 1) 2) (sym (half-up r k r-value)) (half-up-value k l)),
+      tie-of k (2 ^ 148) n,
+      of-tie k (2 ^ 148) n,
+    )
+  ]
+
+  test-is : eq (add binary32 r half32) x ≡ eqb (middle .0) n
+  test-is = eq-at (add binary32 r half32) x false false (middle .0) n U U-pos (middle .1) (S .value) ∙ and-true (eqb (middle .0) n)
 
   round-at : roundAway binary32 x ≡ round binary32 false (wholeNear n U) 1
   round-at = whole-at binary32 nearWay (roundAway binary32) near-way (near-goes binary32) x false n U U-pos (S .value)
@@ -63,13 +89,13 @@ module _ (x r : Float) (S : Small x) (e : r ≡ roundEven binary32 x) where
   pub near-size-next : eq (add binary32 r half32) x ≡ true → add binary32 r one32 ≡ roundAway binary32 x
   near-size-next t =
       next r k false r-value one32 one-value
-      ∙ ap (λ (z : ℕ). round binary32 false z 1) (sym (near-next n U U-pos (tie-of k (2 ^ 148) n (eqb-true ((2 * k + 1) * 2 ^ 148) n (sym test-is ∙ t)))))
+      ∙ ap (λ (z : ℕ). round binary32 false z 1) (sym (near-next n U U-pos (middle .2 (eqb-true (middle .0) n (sym test-is ∙ t)))))
       ∙ sym round-at
 
   pub near-size-same : eq (add binary32 r half32) x ≡ false → r ≡ roundAway binary32 x
   near-size-same t =
       r-is
-      ∙ ap (λ (z : ℕ). round binary32 false z 1) (sym (near-same n U U-pos (λ h. eqb-false ((2 * k + 1) * 2 ^ 148) n (sym test-is ∙ t) (of-tie k (2 ^ 148) n h))))
+      ∙ ap (λ (z : ℕ). round binary32 false z 1) (sym (near-same n U U-pos (λ h. eqb-false (middle .0) n (sym test-is ∙ t) (middle .3 h))))
       ∙ sym round-at
 
 -- ---- `floor`, for either sign
@@ -80,8 +106,8 @@ module _ (x r : Float) (S : Small (abs x)) (e : r ≡ roundEven binary32 x) wher
   abbrev C : ℕ
   C = closest N U
 
-  C-le : C ≤ 2 ^ 22
-  C-le = closest-small (abs x) N (S .value) (S .bound)
+  C-le : C ≤ 2 ^ 23
+  C-le = at-most closest even-way N (S .bound)
 
   -- with the sign s
   module _ (s : Bool) (v : HasValue x s N U) where

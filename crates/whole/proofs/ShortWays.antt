@@ -1,25 +1,22 @@
--- What each way out of a function of the short way owes, as the code meets it. Assumes nothing.
-use mathlib.Core.Path.{_≡_, refl, sym, ap, _∙_, subst}
-use Prim.Native.Nat.{ℕ, _+_, _-_, _*_, _%_, _^_, _≤_, _<_}
+-- What each way out of `floor`, `ceil`, `round` and the functions that they call owes, as the code meets it. Assumes nothing.
+use mathlib.Core.Path.{_≡_, sym, ap, _∙_, subst}
+use Prim.Native.Nat.{ℕ, _+_, _-_, _%_, _^_, _<_}
 use native.Mathlib.Omega.{arith}
 use mathlib.Core.Bool.{Bool, true, false, not}
-use lib.Dec.{T, leb}
-use lib.Ieee.{Float, nan, inf, fin, binary32, sub, mul, neg, lt, le, fits, isNan, nanBits, ofBits, toBits}
+use lib.Dec.{T}
+use lib.Ieee.{Float, nan, inf, fin, binary32, sub, mul, neg, lt, fits, isNan, nanBits, toBits}
 use lib.Ieee.Bits.{toBits-lt}
-use lib.Ieee.Exact.{HasValue}
 use Rattle.ieee.specs.Literal.{one32}
 use Rattle.ieee.specs.Sign.{abs}
 use Rattle.ieee.specs.Limit.{within}
 use Rattle.ieee.specs.Whole.{floor, ceil, roundAway}
-use Rattle.ieee.specs.Pattern.{digitsOf, dropsOf, bare}
-use Rattle.ieee.proofs.Value.{abs-val}
-use Rattle.ieee.proofs.Signed.{Le, test→Le}
-use Rattle.ieee.proofs.Comparison.{le-at}
-use Rattle.ieee.proofs.Pattern.{rest-ok, read-value, read-finite, read-number}
+use Rattle.ieee.proofs.Pattern.{rest-ok, read-number}
+use Rattle.ieee.proofs.Whole.{floorWay, ceilWay, nearWay, floor-way, ceil-way, near-way, floor-goes, ceil-goes, near-goes}
 use Rattle.float.proofs.Ways.{ok-plus, abs-number}
 use Rattle.whole.specs.Even.{roundEven}
 use Rattle.whole.specs.Small.{Small, UnitOf}
-use Rattle.whole.proofs.Even.{U, U-pos, even-size-is}
+use Rattle.whole.proofs.Even.{even-size-is}
+use Rattle.whole.proofs.Limit.{limit, small-within, stays-beyond}
 use Rattle.whole.proofs.Short.{near-size-next, near-size-same, floor-before, floor-same}
 use Rattle.whole.proofs.Signs.{unit-of, round-short, even-short, abs-neg, mirrored}
 
@@ -36,7 +33,7 @@ unit-fits x f = go (toBits binary32 x) (toBits-lt binary32 x (subst T (sym f) tt
 pub unit-ok : (b : ℕ) → T (not (nanBits binary32 (b - b % 2 ^ 31 + 0x3f80_0000)))
 unit-ok b = rest-ok (b - b % 2 ^ 31 + 0x3f80_0000) (omega arith)
 
--- ---- what is small in size
+-- ---- what is small in size, and what is not
 pub small-number : (x : Float) → Small (abs x) → T (not (isNan x))
 unfolding isNan
 small-number nan s = absurd (s .value)
@@ -46,38 +43,23 @@ small-number (fin t m e) s = tt
 pub small-same : (x a : Float) → a ≡ abs x → Small (abs x) → Small a
 small-same x a e s = subst Small (sym e) s
 
--- 2 ^ 22
-abbrev limit : Float
-limit = ofBits binary32 0x4a80_0000
+module _ (x : Float) (t : Bool) (f : fits binary32 x ≡ true) (e : t ≡ within limit x) where
+  module _ (h : t ≡ true) where
+    pub small-found : Small (abs x)
+    small-found = small-within x f (sym e ∙ h)
 
-limit-units : HasValue limit false (2 ^ 171) U
-unfolding ofBits
-limit-units = (refl, refl)
+    pub small-mirrored : Small (abs (neg x))
+    small-mirrored = subst Small (sym (abs-neg x)) small-found
 
-le-of : (a b : ℕ) → Le false a false b → a ≤ b
-le-of a b h = omega arith
+  module _ (h : t ≡ false) where
+    pub floor-beyond : x ≡ floor binary32 x
+    floor-beyond = stays-beyond x f floorWay (floor binary32) floor-way (floor-goes binary32) (sym e ∙ h)
 
-small-within : (x : Float) → fits binary32 x ≡ true → within limit x ≡ true → Small (abs x)
-unfolding le lt ofBits
-small-within nan f t = absurd (subst T (sym t) tt)
-small-within (inf s) f t = absurd (subst T (sym t) tt)
-small-within (fin s m e) f t =
-    let x = fin s m e in
-    let held : T (fits binary32 x) = subst T (sym f) tt in
-    let n = digitsOf (bare x) * 2 ^ dropsOf (bare x) in
-    let v : HasValue (abs x) false n U = abs-val x (leb (2 ^ 31) (toBits binary32 x)) n U (read-value x held (read-finite x held refl)) in
-    record {
-      units = n;
-      value = v;
-      bound = le-of n (2 ^ 171) (test→Le false n false (2 ^ 171) (subst T (sym t ∙ le-at (abs x) limit false false n (2 ^ 171) U U-pos v limit-units) tt));
-    }
+    pub ceil-beyond : x ≡ ceil binary32 x
+    ceil-beyond = stays-beyond x f ceilWay (ceil binary32) ceil-way (ceil-goes binary32) (sym e ∙ h)
 
-module _ (x : Float) (t : Bool) (f : fits binary32 x ≡ true) (e : t ≡ within limit x) (h : t ≡ true) where
-  pub small-found : Small (abs x)
-  small-found = small-within x f (sym e ∙ h)
-
-  pub small-mirrored : Small (abs (neg x))
-  small-mirrored = subst Small (sym (abs-neg x)) small-found
+    pub round-beyond : x ≡ roundAway binary32 x
+    round-beyond = stays-beyond x f nearWay (roundAway binary32) near-way (near-goes binary32) (sym e ∙ h)
 
 -- ---- from a size to the number
 module _ (x a r u : Float) (S : Small (abs x)) (e : a ≡ abs x) (o : UnitOf x u) where
@@ -97,4 +79,24 @@ module _ (x a r u : Float) (S : Small (abs x)) (e : a ≡ abs x) (o : UnitOf x u
 pub ceil-mirrored : (x r : Float) → r ≡ floor binary32 (neg x) → neg r ≡ ceil binary32 x
 ceil-mirrored x r e = ap neg e ∙ mirrored x
 
-pub ruleset short-ways = (even-size-is, near-size-next, near-size-same, abs-number, size-ok, unit-fits, unit-ok, unit-of, small-number, small-same, small-found, small-mirrored, round-signed, floor-lowered, floor-kept, ceil-mirrored)
+pub ruleset short-ways = (
+  even-size-is,
+  near-size-next,
+  near-size-same,
+  abs-number,
+  size-ok,
+  unit-fits,
+  unit-ok,
+  unit-of,
+  small-number,
+  small-same,
+  small-found,
+  small-mirrored,
+  floor-beyond,
+  ceil-beyond,
+  round-beyond,
+  round-signed,
+  floor-lowered,
+  floor-kept,
+  ceil-mirrored,
+)

@@ -1,7 +1,7 @@
 -- A whole number by the size of a float, with the float's sign as a factor 1 or -1; `ceil` as `floor` with both signs changed. Assumes nothing.
 use mathlib.Core.Path.{_≡_, refl, sym, ap, _∙_, subst}
-use Prim.Native.Nat.{ℕ, _+_, _-_, _*_, _%_, _^_, _≤_, _<_}
-use native.Mathlib.Nat.{le-trans, le-of-eq, lt-of-le-of-lt, mul-one}
+use Prim.Native.Nat.{ℕ, _+_, _-_, _*_, _%_, _^_, _<_}
+use native.Mathlib.Nat.{lt-of-le-of-lt, mul-one}
 use native.Mathlib.Omega.{arith}
 use mathlib.Core.Bool.{Bool, true, false, cond}
 use lib.Dec.{T, leb, lit<}
@@ -11,7 +11,7 @@ use lib.Ieee.Exact.{HasValue}
 use lib.Ieee.Nearest.{closest}
 use Rattle.ieee.specs.Sign.{abs}
 use Rattle.ieee.specs.Whole.{wholeDown, wholeUp, wholeNear, floor, ceil, roundAway}
-use Rattle.ieee.specs.Pattern.{withSign, digitsOf, dropsOf, bare}
+use Rattle.ieee.specs.Pattern.{withSign, unitsOf, bare}
 use Rattle.ieee.proofs.Value.{rescale, value-finite}
 use Rattle.ieee.proofs.Round.{neg-round}
 use Rattle.ieee.proofs.Pattern.{split-sign, pattern-value, read-value, read-finite}
@@ -19,7 +19,7 @@ use Rattle.ieee.proofs.Operations.{mul-at}
 use Rattle.ieee.proofs.Whole.{Way, Goes, whole-at, near-way, near-goes}
 use Rattle.whole.specs.Even.{roundEven}
 use Rattle.whole.specs.Small.{Small, UnitOf}
-use Rattle.whole.proofs.Even.{even-way, even-goes, U, U-pos, whole-value}
+use Rattle.whole.proofs.Even.{even-way, even-goes, U, U-pos, whole-value, at-most}
 
 -- ---- from a size to the number: the sign is that of a factor 1 or -1
 pub signed-value : (x : Float) (n c : ℕ) → HasValue (abs x) false n c → (s : Bool) × HasValue x s n c
@@ -31,23 +31,19 @@ unlike-left : (s : Bool) → unlike false s ≡ s
 unlike-left true = refl
 unlike-left false = refl
 
-module _ (h : ℕ → ℕ → ℕ) (g : Float → Float) (W : Way (λ s. h)) (G : Goes binary32 (λ s. h) g) (x r u : Float) (S : Small (abs x)) (e : r ≡ g (abs x)) (O : UnitOf x u) where
-  at-most : h (S .units) U ≤ 2 ^ 22
-  at-most =
-      le-trans (W .mono false (S .units) U (2 ^ 22) 1 U-pos (lit< tt) (le-trans (le-of-eq (mul-one (S .units))) (S .bound)))
-      (le-of-eq (W .exact false (2 ^ 22) 1 (lit< tt)))
-
-  with-sign : mul binary32 r u ≡ g x
-  with-sign =
-      let n = S .units in
-      let k = h n U in
-      let s = signed-value x n U (S .value) .0 in
-      let v = signed-value x n U (S .value) .1 in
-      let r-is : r ≡ round binary32 false k 1 = e ∙ whole-at binary32 (λ s. h) g W G (abs x) false n U U-pos (S .value) in
-      let w : HasValue r false k 1 = subst (λ (y : Float). HasValue y false k 1) (sym r-is) (whole-value false k (lt-of-le-of-lt at-most (lit< tt))) in
-      mul-at binary32 r u false s k 1 1 1 (lit< tt) (lit< tt) w (O .value s n U v)
-      ∙ (λ i. round binary32 (unlike-left s i) (mul-one k i) 1)
-      ∙ sym (whole-at binary32 (λ s. h) g W G x s n U U-pos v)
+with-sign : (h : ℕ → ℕ → ℕ) (g : Float → Float) → Way (λ s. h) → Goes binary32 (λ s. h) g
+    → (x r u : Float) → Small (abs x) → r ≡ g (abs x) → UnitOf x u → mul binary32 r u ≡ g x
+with-sign h g W G x r u S e O =
+    let n = S .units in
+    let k = h n U in
+    let s = signed-value x n U (S .value) .0 in
+    let v = signed-value x n U (S .value) .1 in
+    let r-is : r ≡ round binary32 false k 1 = e ∙ whole-at binary32 (λ s. h) g W G (abs x) false n U U-pos (S .value) in
+    let k-lt : k < 2 ^ 24 = lt-of-le-of-lt (at-most h W n (S .bound)) (lit< tt) in
+    let w : HasValue r false k 1 = subst (λ (y : Float). HasValue y false k 1) (sym r-is) (whole-value false k k-lt) in
+    mul-at binary32 r u false s k 1 1 1 (lit< tt) (lit< tt) w (O .value s n U v)
+    ∙ (λ i. round binary32 (unlike-left s i) (mul-one k i) 1)
+    ∙ sym (whole-at binary32 (λ s. h) g W G x s n U U-pos v)
 
 module _ (x r u : Float) (S : Small (abs x)) (O : UnitOf x u) where
   pub round-short : r ≡ roundAway binary32 (abs x) → mul binary32 r u ≡ roundAway binary32 x
@@ -97,7 +93,7 @@ unit-of x f = record { value = go }
     go : (s : Bool) (a c : ℕ) → HasValue x s a c → HasValue (ofBits binary32 (toBits binary32 x - toBits binary32 x % 2 ^ 31 + 0x3f80_0000)) s 1 1
     go s a c v =
         let t = leb (2 ^ 31) (toBits binary32 x) in
-        let same : s ≡ t = sign-once x s t a (digitsOf (bare x) * 2 ^ dropsOf (bare x)) c U v (read-value x held (read-finite x held (value-finite x s a c v))) in
+        let same : s ≡ t = sign-once x s t a (unitsOf (bare x)) c U v (read-value x held (read-finite x held (value-finite x s a c v))) in
         subst (λ (y : Float). HasValue y s 1 1) (ap (ofBits binary32) (sym (unit-pattern (toBits binary32 x) (toBits-lt binary32 x held))))
         (subst (λ (z : Bool). HasValue (ofBits binary32 (withSign t 0x3f80_0000)) z 1 1) (sym same)
         (rescale (ofBits binary32 (withSign t 0x3f80_0000)) t U U 1 1 U-pos refl (pattern-value t 0x3f80_0000 (lit< tt))))

@@ -7,12 +7,12 @@ ghost use lib.Ieee as Ieee;
 ghost use lib.Ieee.{binary32, isNan};
 ghost use Rattle.ieee.specs.Sign as Sign;
 ghost use Rattle.ieee.specs.Whole as Whole;
-ghost use Rattle.ieee.specs.Whole.{wholeDown, wholeUp, wholeNear};
+ghost use Rattle.ieee.specs.Whole.{wholeDown, wholeUp};
 ghost use Rattle.whole.specs.Even.{roundEven};
 ghost use Rattle.whole.specs.Small.{Small, UnitOf};
 
-// 2^22. Up to this size a sum with 2^23 keeps its last digit at 1, and a half is exact beside a whole number.
-const SHORT: f32 = 4194304.0;
+// The largest float that is no whole number, 2^23 - 1/2. Beyond it floor, ceil and round answer x.
+const LAST_HALF: f32 = 8388607.5;
 
 // n with a sign, as a float. The cast is exact.
 pub fn from_whole(negative: bool, n: u64) -> f32
@@ -42,80 +42,7 @@ pub fn up_at(q: u64, s: u64) -> u64
     if q == 0 { 0 } else { 1 }
 }
 
-// The nearest whole number, a half to the larger one.
-fn near_at(q: u64, s: u64) -> u64
-    requires { ⌜ (q < 2 ^ 24) × (0 < s) ⌝ }
-    ensures { λ r. ⌜ (r ≡ wholeNear q (2 ^ s)) × (r ≤ 2 ^ 24) ⌝ }
-{
-    if s < 60 {
-        let half = 1 << (s - 1);
-        return (q + half) >> s;
-    }
-    0
-}
-
-// Rust's f32::floor, by the parts of x.
-fn floor_parts(x: f32) -> f32
-    ensures { λ r. ⌜ r ≡ Whole.floor binary32 x ⌝ }
-{
-    let p = float::split(x);
-    let q = p.digits;
-    let k = p.drops;
-    let negative = p.negative;
-    if !p.finite {
-        return x;
-    }
-    if k >= 149 {
-        return x;
-    }
-    let s = 149 - k;
-    if negative {
-        from_whole(true, up_at(q, s))
-    } else {
-        from_whole(false, down_at(q, s))
-    }
-}
-
-// Rust's f32::ceil, by the parts of x.
-fn ceil_parts(x: f32) -> f32
-    ensures { λ r. ⌜ r ≡ Whole.ceil binary32 x ⌝ }
-{
-    let p = float::split(x);
-    let q = p.digits;
-    let k = p.drops;
-    let negative = p.negative;
-    if !p.finite {
-        return x;
-    }
-    if k >= 149 {
-        return x;
-    }
-    let s = 149 - k;
-    if negative {
-        from_whole(true, down_at(q, s))
-    } else {
-        from_whole(false, up_at(q, s))
-    }
-}
-
-// Rust's f32::round, by the parts of x.
-fn round_parts(x: f32) -> f32
-    ensures { λ r. ⌜ r ≡ Whole.roundAway binary32 x ⌝ }
-{
-    let p = float::split(x);
-    let q = p.digits;
-    let k = p.drops;
-    let negative = p.negative;
-    if !p.finite {
-        return x;
-    }
-    if k >= 149 {
-        return x;
-    }
-    from_whole(negative, near_at(q, 149 - k))
-}
-
-// The whole number nearest to a size of at most 2^22, half to even. From 2^23 on the last digit of a
+// The whole number nearest to a size below 2^23, half to even. From 2^23 to 2^24 the last digit of a
 // float is worth 1, so the sum rounds there, and the difference is exact.
 fn even_size(a: f32) -> f32
     requires { ⌜ Small a ⌝ }
@@ -124,7 +51,8 @@ fn even_size(a: f32) -> f32
     (a + 8388608.0) - 8388608.0
 }
 
-// The whole number nearest to it, half up: a half that went down to the even number goes up.
+// The whole number nearest to it, half up: a half that went down to the even number goes up. If r is
+// 2^23, the sum with 0.5 is 2^23 again, which a does not reach.
 fn near_size(a: f32) -> f32
     requires { ⌜ Small a ⌝ }
     ensures { λ r. ⌜ r ≡ Whole.roundAway binary32 a ⌝ }
@@ -150,7 +78,7 @@ fn unit_of(x: f32) -> f32
     f32::from_bits(b - b % 0x8000_0000 + 0x3f80_0000)
 }
 
-// Rust's f32::round up to 2^22 in size.
+// Rust's f32::round below 2^23 in size.
 fn round_short(x: f32) -> f32
     requires { ⌜ Small (Sign.abs x) ⌝ }
     ensures { λ r. ⌜ r ≡ Whole.roundAway binary32 x ⌝ }
@@ -158,7 +86,7 @@ fn round_short(x: f32) -> f32
     near_size(size_of(x)) * unit_of(x)
 }
 
-// Rust's f32::floor up to 2^22 in size: the nearest whole number, or the one before it.
+// Rust's f32::floor below 2^23 in size: the nearest whole number, or the one before it.
 fn floor_short(x: f32) -> f32
     requires { ⌜ Small (Sign.abs x) ⌝ }
     ensures { λ r. ⌜ r ≡ Whole.floor binary32 x ⌝ }
@@ -171,10 +99,10 @@ fn floor_short(x: f32) -> f32
 pub fn floor(x: f32) -> f32
     ensures { λ r. ⌜ r ≡ Whole.floor binary32 x ⌝ }
 {
-    if float::is_within(x, SHORT) {
+    if float::is_within(x, LAST_HALF) {
         floor_short(x)
     } else {
-        floor_parts(x)
+        x
     }
 }
 
@@ -182,10 +110,10 @@ pub fn floor(x: f32) -> f32
 pub fn ceil(x: f32) -> f32
     ensures { λ r. ⌜ r ≡ Whole.ceil binary32 x ⌝ }
 {
-    if float::is_within(x, SHORT) {
+    if float::is_within(x, LAST_HALF) {
         -floor_short(-x)
     } else {
-        ceil_parts(x)
+        x
     }
 }
 
@@ -193,9 +121,9 @@ pub fn ceil(x: f32) -> f32
 pub fn round(x: f32) -> f32
     ensures { λ r. ⌜ r ≡ Whole.roundAway binary32 x ⌝ }
 {
-    if float::is_within(x, SHORT) {
+    if float::is_within(x, LAST_HALF) {
         round_short(x)
     } else {
-        round_parts(x)
+        x
     }
 }

@@ -10,16 +10,11 @@ is-within-requires c κs = search needs
 floor-short-requires : tie.Need-floor-short-requires
 floor-short-requires c κs = search (needs, short-ways)
 
-floor-parts-requires : tie.Need-floor-parts-requires
-floor-parts-requires c κs = search needs
-
 returns : tie.Need-returns
 returns c = search needs
 
 returns-2 : tie.Need-returns-2
-returns-2 c = search needs
+returns-2 c = search (needs, short-ways)
 
 pub floor-spec : {M : Type 1} → statement M
-floor-spec =
-    tie.close
-    (tie.spec is-within-requires floor-short-requires floor-parts-requires returns returns-2)
+floor-spec = tie.close (tie.spec is-within-requires floor-short-requires returns returns-2)

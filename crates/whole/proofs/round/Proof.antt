@@ -10,16 +10,11 @@ is-within-requires c κs = search needs
 round-short-requires : tie.Need-round-short-requires
 round-short-requires c κs = search (needs, short-ways)
 
-round-parts-requires : tie.Need-round-parts-requires
-round-parts-requires c κs = search needs
-
 returns : tie.Need-returns
 returns c = search needs
 
 returns-2 : tie.Need-returns-2
-returns-2 c = search needs
+returns-2 c = search (needs, short-ways)
 
 pub round-spec : {M : Type 1} → statement M
-round-spec =
-    tie.close
-    (tie.spec is-within-requires round-short-requires round-parts-requires returns returns-2)
+round-spec = tie.close (tie.spec is-within-requires round-short-requires returns returns-2)
