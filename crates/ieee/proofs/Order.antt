@@ -1,7 +1,5 @@
--- `le` is a total order on the floats that are no NaN, up to a zero's sign; changing signs turns it round; and the larger of two fractions rounds to a float that is no smaller.
--- `le-antisym` and `le-total` complete the order for readers: nothing here needs them. Assumes nothing.
+-- `le` is a total order on the floats that are no NaN, up to a zero's sign; changing signs turns it round; and the larger of two fractions rounds to a float that is no smaller. Assumes nothing.
 use mathlib.Core.Path.{_≡_, refl, sym, ap, _∙_, subst}
-use mathlib.Core.Logic.{_⊎_, inl, inr}
 use Prim.Native.Nat.{ℕ, zero, suc, _+_, _*_, _^_, _≤_, _<_}
 use native.Mathlib.Nat.{lt-of-not-le, zero-lt-suc, zero-mul, suc-mul, mul-right-comm}
 use native.Mathlib.Omega.{arith}
@@ -14,7 +12,7 @@ use lib.Ieee.Order as O
 use lib.Ieee.Scale.{round-same, finite}
 use Rattle.ieee.specs.Sign.{isNumber}
 use Rattle.ieee.proofs.Round.{neg-round}
-use Rattle.ieee.proofs.Signed.{Le, Le-refl, Le-trans, Le-mul, Le-div, Le-antisym, Le-flip, test→Le, Le→test, not-below, below-not}
+use Rattle.ieee.proofs.Signed.{Le, Le-refl, Le-trans, Le-mul, Le-div, Le-flip, test→Le, Le→test, not-below, below-not}
 
 -- ---- finite values, by their fractions
 module _ (s : Bool) (m : ℕ) (e : ℤ) (t : Bool) (n : ℕ) (d : ℤ) where
@@ -100,22 +98,6 @@ le-trans (fin s m e) (fin t n d) (inf true) h k = absurd (subst T (fin-bottom t 
 le-trans (fin s m e) (fin t n d) (inf false) h k = most (fin s m e) tt
 le-trans (fin s m e) (fin t n d) (fin u k g) h h' = fin-trans s m e t n d u k g h h'
 
--- equal up to a zero's sign
-pub le-antisym : (x y : Float) → T (le x y) → T (le y x) → T (eq x y)
-unfolding eq
-le-antisym nan y h k = absurd (le-number-l nan y h)
-le-antisym (inf s) nan h k = absurd (le-number-l nan (inf s) k)
-le-antisym (inf true) (inf true) h k = tt
-le-antisym (inf true) (inf false) h k = absurd (unfold le in k)
-le-antisym (inf false) (inf true) h k = absurd (unfold le in h)
-le-antisym (inf false) (inf false) h k = tt
-le-antisym (inf true) (fin t n d) h k = absurd (unfold le in k)
-le-antisym (inf false) (fin t n d) h k = absurd (unfold le in h)
-le-antisym (fin s m e) nan h k = absurd (le-number-l nan (fin s m e) k)
-le-antisym (fin s m e) (inf true) h k = absurd (unfold le in h)
-le-antisym (fin s m e) (inf false) h k = absurd (unfold le in k)
-le-antisym (fin s m e) (fin t n d) h k = Le-antisym s (m * up e * down d) t (n * up d * down e) (le→Le s m e t n d h) (le→Le t n d s m e k)
-
 pub lt→le : (x y : Float) → T (lt x y) → T (le x y)
 unfolding le
 lt→le x y h = go (lt x y) (eq x y) h
@@ -139,13 +121,6 @@ not-lt→le (fin s m e) nan p q h = absurd q
 not-lt→le (fin s m e) (inf true) p q h = unfold le in tt
 not-lt→le (fin s m e) (inf false) p q h = absurd h
 not-lt→le (fin s m e) (fin t n d) p q h = Le→le t n d s m e (not-below s (m * up e * down d) t (n * up d * down e) h)
-
-pub le-total : (x y : Float) → T (isNumber x) → T (isNumber y) → T (le x y) ⊎ T (le y x)
-le-total x y p q = go (lt x y) refl
-  where
-    go : (b : Bool) → lt x y ≡ b → T (le x y) ⊎ T (le y x)
-    go true e = inl (lt→le x y (subst T (sym e) tt))
-    go false e = inr (not-lt→le x y p q (subst (λ (b : Bool). T (not b)) (sym e) tt))
 
 pub le-not-lt : (x y : Float) → T (le x y) → T (lt y x) → ⊥
 unfolding lt

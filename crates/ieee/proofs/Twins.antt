@@ -1,5 +1,5 @@
 -- One law for each operation: where the operands are multiplied by 2 ^ k, so is the result, and it is on a grid again. These are the laws to cite.
--- `twin-le` and `twin-eq` stand beside `twin-lt` for readers: nothing here needs them. Assumes nothing.
+-- Assumes nothing.
 use mathlib.Core.Path.{_≡_, refl, sym, ap, _∙_, subst}
 use Prim.Native.Nat.{ℕ, zero, suc, _+_, _*_, _^_, _≤_, _<_}
 use native.Mathlib.Nat.{add-comm, mul-pos, mul-comm, mul-assoc, mul-le-mul-right, le-mul-of-pos-right}
@@ -7,7 +7,7 @@ use native.Mathlib.Omega.{arith}
 use mathlib.Core.Bool.{Bool, true, false, cond, _||_}
 use lib.Dec.{T}
 use lib.Pow.{pow-pos}
-use lib.Ieee.{Float, nan, inf, fin, Format, prec, emax, low, neg, add, sub, mul, lt, le, eq, isNan, below, level, ofBits}
+use lib.Ieee.{Float, nan, inf, fin, Format, prec, emax, low, neg, add, sub, mul, lt, le, isNan, below, level, ofBits}
 use lib.Ieee.Exact.{HasValue}
 use Rattle.ieee.specs.Literal.{zero32}
 use Rattle.ieee.specs.Sign.{abs}
@@ -18,7 +18,7 @@ use Rattle.ieee.specs.Grid.{scale, On, Twin}
 use Rattle.ieee.proofs.Digits.{le-without}
 use Rattle.ieee.proofs.Value.{rescale, scale-val}
 use Rattle.ieee.proofs.Signed.{Le, test→Le, Le→test}
-use Rattle.ieee.proofs.Comparison.{le-at, lt-scale, le-scale, eq-scale}
+use Rattle.ieee.proofs.Comparison.{le-at, lt-scale}
 use Rattle.ieee.proofs.Operations.{mul-swap, fma-swap}
 use Rattle.ieee.proofs.Round.{prec-pos}
 use Rattle.ieee.proofs.Grid.{weaken, zero-on, neg-on, abs-on, neg-scale, abs-scale, absorbed, add-on-at, add-scale-at, add-on, add-scale, add-on-absorb, add-scale-absorb, sub-on, sub-scale, mul-on, mul-scale, fma-on, fma-scale}
@@ -101,12 +101,6 @@ twin-fma-right f k r c q b d e w x x' z z' Q CB D E W X Z =
 -- ---- comparisons
 pub twin-lt : (k q b q' b' : ℕ) (x x' y y' : Float) → Twin k q b x x' → Twin k q' b' y y' → lt x' y' ≡ lt x y
 twin-lt k q b q' b' x x' y y' X Y = (λ i. lt (X .is i) (Y .is i)) ∙ lt-scale k x y
-
-pub twin-le : (k q b q' b' : ℕ) (x x' y y' : Float) → Twin k q b x x' → Twin k q' b' y y' → le x' y' ≡ le x y
-twin-le k q b q' b' x x' y y' X Y = (λ i. le (X .is i) (Y .is i)) ∙ le-scale k x y
-
-pub twin-eq : (k q b q' b' : ℕ) (x x' y y' : Float) → Twin k q b x x' → Twin k q' b' y y' → eq x' y' ≡ eq x y
-twin-eq k q b q' b' x x' y y' X Y = (λ i. eq (X .is i) (Y .is i)) ∙ eq-scale k x y
 
 -- ±n ≤ w where ±m ≤ w and n is no larger than m
 le-less : (s : Bool) (n m w : ℕ) → n ≤ m → Le s m false w → Le s n false w
