@@ -14,7 +14,7 @@ use lib.Ieee.Exact.{HasValue}
 use lib.ListN.{length, getD, set}
 use Rattle.ieee.specs.Limit.{within, Bounded}
 use Rattle.ieee.proofs.Bounds.{within→bounded}
-use Rattle.curve.specs.declared.Point.{Point}
+use Rattle.point.specs.declared.Point.{Point}
 use Rattle.curve.specs.Curve.{quadAt, evalQuad, quadPoint, cubicAt, evalCubic, cubicPoint, stepOf, chords, quadLengthAfter, quadLength, cubicLengthAfter, cubicLength}
 use Rattle.curve.proofs.Chords.{quad-next}
 use Rattle.curve.proofs.Rising.{Inside, quad-inside, cubic-inside}

@@ -4,7 +4,7 @@ use mathlib.Core.Path.{_≡_}
 use mathlib.Core.List.{List}
 use lib.Ieee.{Float}
 use lib.ListN.{length}
-use Rattle.curve.specs.declared.Point.{Point}
+use Rattle.point.specs.declared.Point.{Point}
 use Rattle.polyline.specs.Polyline.{pointAt}
 
 -- the places up to the n-th hold the points of their steps

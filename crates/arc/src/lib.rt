@@ -1,6 +1,6 @@
 // The length of a curve by chords, as `curve` has it, the quick way: the points go into two arrays, and the chords between
 // them are measured together.
-use curve::Point;
+use point::Point;
 ghost use mathlib.Core.Path.{_≡_};
 ghost use mathlib.Core.Bool.{true};
 ghost use Prim.Native.Nat.{_^_, _≤_, _<_};

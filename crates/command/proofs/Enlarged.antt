@@ -1,4 +1,4 @@
--- Laws of enlarged command lists: the codes stay, the numbers are multiplied, and all are within the limit; and how such lists are built, and outcomes that hold them. Assumes nothing.
+-- Laws of enlarged command lists: the codes stay, the numbers are multiplied, and all are within the limit; and how such lists are built, and outcomes that have them. Assumes nothing.
 use mathlib.Core.Path.{_≡_, refl, sym, ap, ap₂, _∙_, subst}
 use mathlib.Core.Bool.{Bool, true, false, cond}
 use mathlib.Core.List.{List, [], _∷_, _++_, map, map-append}
@@ -17,8 +17,9 @@ use Rattle.command.specs.declared.PathCommand.{PathCommand}
 use Rattle.command.specs.declared.PathCommand.the-variants.{Move, Line, Cubic, Close, Quad}
 use Rattle.command.specs.declared.Refusal.{Refusal}
 use Rattle.command.specs.Commands.{codeOf, coordinatesOf, codesOf, numbersOf, commandLimit}
-use Rattle.command.specs.Outcomes.{Outcome, refused, drawn}
-use Rattle.command.specs.Enlarged.{enlarged, AllOn, CommandTwin, Twins, OutcomeTwin}
+use Rattle.command.specs.Outcomes.{Outcome, refused, accepted, Check, checked}
+use Rattle.command.specs.Enlarged.{enlarged, AllOn, CommandTwin, Twins, DrawingTwin}
+use Rattle.command.proofs.Outcomes.{AllPass, checks-relate}
 use Rattle.command.proofs.Passes.{numbers-append}
 
 -- ---- numbers on a grid
@@ -148,18 +149,14 @@ twins-take {k} {q} {b} {cs} {cs'} n t = subst (λ (ds : List PathCommand). Twins
         let s = all-split q b (coordinatesOf c) (numbersOf cs) A in
         twins-cons (record { command = refl; grid = s .0 }) (go n cs (s .1))
 
--- ---- outcomes
+-- ---- what is drawn
 module _ {k q b : ℕ} where
-  pub outcome-refused : (r : Refusal) → OutcomeTwin k q b (refused r) (refused r)
-  outcome-refused r = record { outcome = refl; grid = tt }
+  pub drawing-refused : (r : Refusal) → DrawingTwin k q b (refused r) (refused r)
+  drawing-refused r = record { outcome = refl; grid = tt }
 
-  pub outcome-drawn : {cs cs' : List PathCommand} → Twins k q b cs cs' → OutcomeTwin k q b (drawn cs) (drawn cs')
-  outcome-drawn t = record { outcome = ap drawn (t .commands); grid = t .grid }
+  pub drawing-accepted : {cs cs' : List PathCommand} → Twins k q b cs cs' → DrawingTwin k q b (accepted cs) (accepted cs')
+  drawing-accepted t = record { outcome = ap accepted (t .commands); grid = t .grid }
 
-  -- one of two, by a test that is the same
-  pub outcome-choice : {t t' : Bool} {o o' p p' : Outcome} → t' ≡ t → OutcomeTwin k q b o o' → OutcomeTwin k q b p p' → OutcomeTwin k q b (cond t o p) (cond t' o' p')
-  outcome-choice {t = t} {o = o} {o' = o'} {p = p} {p' = p'} e O P = subst (λ (z : Bool). OutcomeTwin k q b (cond t o p) (cond z o' p')) (sym e) (go t)
-    where
-      go : (t : Bool) → OutcomeTwin k q b (cond t o p) (cond t o' p')
-      go true = O
-      go false = P
+  -- behind the same checks
+  pub drawing-checked : (cs : List Check) {o o' : Outcome (List PathCommand)} → (AllPass cs → DrawingTwin k q b o o') → DrawingTwin k q b (checked cs o) (checked cs o')
+  drawing-checked cs {o} {o'} last = checks-relate (DrawingTwin k q b) drawing-refused cs o o' last

@@ -1,8 +1,9 @@
--- The laws of lists of commands, and of the two buffers that they are written to.
+-- The laws of outcomes, of lists of commands, and of the buffers that they are written to.
+pub mod Outcomes
 pub mod Buffers
 pub mod Passes
 pub mod Writes
 pub mod Enlarged
 pub mod Bounds
+pub mod Each
 pub mod Ways
-pub mod Needs

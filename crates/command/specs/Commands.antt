@@ -2,7 +2,6 @@
 use Prim.Native.Nat.{ℕ}
 use mathlib.Core.List.{List, [], _∷_, _++_}
 use lib.Ieee.{Float, ofBits, binary32}
-use lib.ListN.{length, drop}
 use Rattle.command.specs.declared.PathCommand.{PathCommand}
 use Rattle.command.specs.declared.PathCommand.the-variants.{Move, Line, Cubic, Close, Quad}
 
@@ -34,7 +33,3 @@ numbersOf (c ∷ cs) = coordinatesOf c ++ numbersOf cs
 -- 4,194,304, which is 2 ^ 22: no number of a command list is larger
 abbrev pub commandLimit : Float
 commandLimit = ofBits binary32 0x4a80_0000
-
--- a buffer with its beginning replaced: places past it keep their content
-abbrev pub onto {ℓ} : {A : Type ℓ} → List A → List A → List A
-onto answer buffer = answer ++ drop (length answer) buffer

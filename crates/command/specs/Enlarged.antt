@@ -7,7 +7,7 @@ use Rattle.ieee.specs.Grid.{scale, On}
 use Rattle.command.specs.declared.PathCommand.{PathCommand}
 use Rattle.command.specs.declared.PathCommand.the-variants.{Move, Line, Cubic, Close, Quad}
 use Rattle.command.specs.Commands.{coordinatesOf, numbersOf}
-use Rattle.command.specs.Outcomes.{Outcome, refused, drawn, commandsOf}
+use Rattle.command.specs.Outcomes.{Outcome, mapped, listOf}
 
 -- the command with every number times 2 ^ k, exactly
 abbrev pub enlarged : ℕ → PathCommand → PathCommand
@@ -32,12 +32,11 @@ pub record Twins (k q b : ℕ) (cs cs' : List PathCommand) : Type 0 where
   pub commands : cs' ≡ map (enlarged k) cs
   pub grid : AllOn q b (numbersOf cs)
 
--- an outcome with every number of its commands times 2 ^ k, exactly: a refusal stays what it is
-abbrev pub enlargedOutcome : ℕ → Outcome → Outcome
-enlargedOutcome k (refused r) = refused r
-enlargedOutcome k (drawn cs) = drawn (map (enlarged k) cs)
+-- what is drawn with every number times 2 ^ k, exactly: a refusal stays what it is
+abbrev pub enlargedDrawing : ℕ → Outcome (List PathCommand) → Outcome (List PathCommand)
+enlargedDrawing k o = mapped (map (enlarged k)) o
 
 -- o' is o with every number times 2 ^ k, and the numbers of o are on the grid
-pub record OutcomeTwin (k q b : ℕ) (o o' : Outcome) : Type 0 where
-  pub outcome : o' ≡ enlargedOutcome k o
-  pub grid : AllOn q b (numbersOf (commandsOf o))
+pub record DrawingTwin (k q b : ℕ) (o o' : Outcome (List PathCommand)) : Type 0 where
+  pub outcome : o' ≡ enlargedDrawing k o
+  pub grid : AllOn q b (numbersOf (listOf o))

@@ -1,6 +1,6 @@
--- Commands and refusals as numbers, and what a call that fills two buffers promises.
+-- Commands and refusals as numbers; refused, or an answer; and what a call that fills buffers promises.
 pub mod Commands
 pub mod Refusals
 pub mod Outcomes
-pub mod Needs
+pub mod Buffers
 pub mod Enlarged

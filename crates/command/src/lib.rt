@@ -6,8 +6,7 @@ ghost use lib.ListN.{length};
 ghost use lib.Seq.{sets};
 ghost use Rattle.command.specs.Commands.{codeOf, coordinatesOf};
 ghost use Rattle.command.specs.Refusals.{refusalNumber};
-ghost use Rattle.command.specs.Outcomes.{drawnNumber, drawnCodes, drawnNumbers};
-ghost use Rattle.command.specs.Needs.{needNumber, needCodes, needNumbers};
+ghost use Rattle.command.specs.Outcomes.{countsNumber, firstCount, secondCount};
 
 // A path command, with its coordinates.
 pub enum PathCommand {
@@ -34,16 +33,11 @@ pub enum Refusal {
     OutOfBounds,
 }
 
-// The answer of a call that fills two buffers: how many codes and numbers it wrote.
-pub enum Drawn {
+// Two counts that a call tells, or why it tells none: the codes and numbers that a drawing needs or has
+// written, or where a command's numbers start and how many they are.
+pub enum Counts {
     Refused(Refusal),
-    Written(usize, usize),
-}
-
-// The codes and numbers that a drawing needs, or why there is none.
-pub enum Need {
-    Refused(Refusal),
-    Room(usize, usize),
+    Of(usize, usize),
 }
 
 // The number by which C knows a refusal.
@@ -67,62 +61,32 @@ pub fn refusal_number(refusal: Refusal) -> u32
 }
 
 // The number that a call hands back: 0 for an answer.
-pub fn drawn_number(drawn: Drawn) -> u32
-    ensures { λ r. ⌜ r ≡ drawnNumber drawn ⌝ }
+pub fn counts_number(counts: Counts) -> u32
+    ensures { λ r. ⌜ r ≡ countsNumber counts ⌝ }
 {
-    match drawn {
-        Drawn::Refused(refusal) => refusal_number(refusal),
-        Drawn::Written(_, _) => 0,
+    match counts {
+        Counts::Refused(refusal) => refusal_number(refusal),
+        Counts::Of(_, _) => 0,
     }
 }
 
-// How many codes a call wrote: none for a refusal.
-pub fn drawn_codes(drawn: Drawn) -> usize
-    ensures { λ r. ⌜ r ≡ drawnCodes drawn ⌝ }
+// The first count: 0 for a refusal.
+pub fn first_count(counts: Counts) -> usize
+    ensures { λ r. ⌜ r ≡ firstCount counts ⌝ }
 {
-    match drawn {
-        Drawn::Refused(_) => 0,
-        Drawn::Written(codes, _) => codes,
+    match counts {
+        Counts::Refused(_) => 0,
+        Counts::Of(first, _) => first,
     }
 }
 
-// How many numbers a call wrote: none for a refusal.
-pub fn drawn_numbers(drawn: Drawn) -> usize
-    ensures { λ r. ⌜ r ≡ drawnNumbers drawn ⌝ }
+// The second count: 0 for a refusal.
+pub fn second_count(counts: Counts) -> usize
+    ensures { λ r. ⌜ r ≡ secondCount counts ⌝ }
 {
-    match drawn {
-        Drawn::Refused(_) => 0,
-        Drawn::Written(_, numbers) => numbers,
-    }
-}
-
-// The number that a call hands back about a need: 0 for an answer.
-pub fn need_number(need: Need) -> u32
-    ensures { λ r. ⌜ r ≡ needNumber need ⌝ }
-{
-    match need {
-        Need::Refused(refusal) => refusal_number(refusal),
-        Need::Room(_, _) => 0,
-    }
-}
-
-// How many codes are needed: none for a refusal.
-pub fn need_codes(need: Need) -> usize
-    ensures { λ r. ⌜ r ≡ needCodes need ⌝ }
-{
-    match need {
-        Need::Refused(_) => 0,
-        Need::Room(codes, _) => codes,
-    }
-}
-
-// How many numbers are needed: none for a refusal.
-pub fn need_numbers(need: Need) -> usize
-    ensures { λ r. ⌜ r ≡ needNumbers need ⌝ }
-{
-    match need {
-        Need::Refused(_) => 0,
-        Need::Room(_, numbers) => numbers,
+    match counts {
+        Counts::Refused(_) => 0,
+        Counts::Of(_, second) => second,
     }
 }
 

@@ -5,10 +5,10 @@ use Prim.Native.Nat.{ℕ}
 use lib.Ieee.{Float, nan, binary32, lt, le, eq, ofBits, ofFields}
 use Rattle.ieee.specs.Limit.{allWithin}
 use Rattle.command.specs.declared.Refusal.the-variants.{TooMany, OutOfRange, Unsupported, NoSuchCopy}
+use Rattle.command.specs.Outcomes.{refused, accepted}
 use Rattle.repeater.specs.Repeater.{copyCount}
-use Rattle.copies.specs.Answers.{refused, answered}
 use Rattle.copies.specs.Order.{rising, falling, orderOf, copyOrder}
-use Rattle.copies.specs.Calls.{repeaterOf, hasTooMany, verdictOf, after, orderAnswer, copyAnswer, transformAnswer}
+use Rattle.copies.specs.Calls.{repeaterOf, hasTooMany, repeaterChecks, orderAnswer, copyAnswer, transformAnswer}
 
 -- a repeater with these copies, offset and rotation, and 0 for the rest
 abbrev numbers : Float → Float → Float → List Float
@@ -20,32 +20,32 @@ abbrev f : ℕ → Float
 f n = ofBits binary32 n
 
 -- 2.5 copies: 0, 1, 2 in mode 1, else 2, 1, 0; -1 copies: none
-in-order : orderAnswer (repeaterOf (numbers (f 0x4020_0000) (f 0) (f 0)) 1) ≡ answered (0 ∷ 1 ∷ 2 ∷ [])
-unfolding orderAnswer after verdictOf hasTooMany copyOrder copyCount orderOf rising falling allWithin lt le eq ofBits ofFields
+in-order : orderAnswer (repeaterOf (numbers (f 0x4020_0000) (f 0) (f 0)) 1) ≡ accepted (0 ∷ 1 ∷ 2 ∷ [])
+unfolding orderAnswer repeaterChecks hasTooMany copyOrder copyCount orderOf rising falling allWithin lt le eq ofBits ofFields
 in-order = refl
 
-reversed : orderAnswer (repeaterOf (numbers (f 0x4020_0000) (f 0) (f 0x8000_0000)) 0) ≡ answered (2 ∷ 1 ∷ 0 ∷ [])
-unfolding orderAnswer after verdictOf hasTooMany copyOrder copyCount orderOf rising falling allWithin lt le eq ofBits ofFields
+reversed : orderAnswer (repeaterOf (numbers (f 0x4020_0000) (f 0) (f 0x8000_0000)) 0) ≡ accepted (2 ∷ 1 ∷ 0 ∷ [])
+unfolding orderAnswer repeaterChecks hasTooMany copyOrder copyCount orderOf rising falling allWithin lt le eq ofBits ofFields
 reversed = refl
 
-none : orderAnswer (repeaterOf (numbers (f 0xbf80_0000) (f 0) (f 0)) 1) ≡ answered []
-unfolding orderAnswer after verdictOf hasTooMany copyOrder copyCount orderOf rising falling allWithin lt le eq ofBits ofFields
+none : orderAnswer (repeaterOf (numbers (f 0xbf80_0000) (f 0) (f 0)) 1) ≡ accepted []
+unfolding orderAnswer repeaterChecks hasTooMany copyOrder copyCount orderOf rising falling allWithin lt le eq ofBits ofFields
 none = refl
 
 -- an infinity meets 2 before 3, copies of minus infinity are 3, and a rotation is 5 after that
 infinite : orderAnswer (repeaterOf (numbers (f 0x7f80_0000) nan (f 0)) 1) ≡ refused TooMany
-unfolding orderAnswer after verdictOf hasTooMany lt le ofBits ofFields
+unfolding orderAnswer repeaterChecks hasTooMany lt le ofBits ofFields
 infinite = refl
 
 infinite-below : orderAnswer (repeaterOf (numbers (f 0xff80_0000) (f 0) (f 0x3f80_0000)) 1) ≡ refused OutOfRange
-unfolding orderAnswer after verdictOf hasTooMany allWithin lt le ofBits ofFields
+unfolding orderAnswer repeaterChecks hasTooMany allWithin lt le ofBits ofFields
 infinite-below = refl
 
 turned : transformAnswer (repeaterOf (numbers (f 0x3f80_0000) (f 0) (f 0x3f80_0000)) 1) 7 ≡ refused Unsupported
-unfolding transformAnswer after verdictOf hasTooMany allWithin lt le eq ofBits ofFields
+unfolding transformAnswer repeaterChecks hasTooMany allWithin lt le eq ofBits ofFields
 turned = refl
 
 -- a copy index at the count is 9
 missing : transformAnswer (repeaterOf (numbers (f 0x4020_0000) (f 0) (f 0)) 1) 3 ≡ refused NoSuchCopy
-unfolding transformAnswer after verdictOf hasTooMany copyAnswer copyCount allWithin lt le eq ofBits ofFields
+unfolding transformAnswer repeaterChecks hasTooMany copyAnswer copyCount allWithin lt le eq ofBits ofFields
 missing = refl

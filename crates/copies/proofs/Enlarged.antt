@@ -1,8 +1,8 @@
--- A repeater that scales by 100 per cent, with its position and its anchor on the grid of 1 / 1024, enlarged by a power of two: every refusal and the order of the copies are the same,
--- and of the seven numbers of a copy e and f are multiplied. Assumes nothing.
+-- A repeater that scales by 100 per cent, with its position and its anchor on the grid of 1 / 1024, enlarged by a power of two:
+-- every refusal and the order of the copies are the same, and of the seven numbers of a copy e and f are multiplied. Assumes nothing.
 use mathlib.Core.Path.{_≡_, refl, sym, ap, _∙_}
-use mathlib.Core.Bool.{Bool, true, false, cond, _&&_, _||_}
-use mathlib.Core.List.{[], _∷_}
+use mathlib.Core.Bool.{true, false, not, _&&_, _||_}
+use mathlib.Core.List.{List, [], _∷_}
 use Prim.Native.Nat.{ℕ, _+_, _^_, _≤_, _<_}
 use native.Mathlib.Nat.{le-refl}
 use native.Mathlib.Omega.{arith}
@@ -11,7 +11,7 @@ use lib.Ieee.{Float, lt, eq, ofBits}
 use lib.Ieee.Bits.{is-true}
 use lib.Ieee.Exact.{HasValue}
 use lib.Ieee.Scale.{finite}
-use borrow.Author.Tests.{ltb-true}
+use borrow.Author.Tests.{ltb-true, not-false}
 use Rattle.ieee.specs.Literal.{zero32}
 use Rattle.ieee.specs.Sign.{abs}
 use Rattle.ieee.specs.Limit.{within, allWithin}
@@ -20,17 +20,17 @@ use Rattle.ieee.proofs.Bounds.{on-bounded, bounded-finite}
 use Rattle.ieee.proofs.Grid.{weaken, scale-on}
 use Rattle.ieee.proofs.Limits as Limits
 use Rattle.command.specs.declared.Refusal.the-variants.{TooMany, OutOfRange, Unsupported, NoSuchCopy, NotFinite}
+use Rattle.command.specs.Outcomes.{Outcome, accepted, Check, _gives_, checked}
+use Rattle.command.proofs.Outcomes.{AllPass, checks-relate}
 use Rattle.repeater.specs.declared.Matrix.{Matrix}
 use Rattle.repeater.specs.declared.RepeaterStyle.{RepeaterStyle}
-use Rattle.repeater.specs.Repeater.{mostOffset, copyCount, copyTransform, copyOpacity}
+use Rattle.repeater.specs.Repeater.{mostCopies, mostOffset, copyCount, copyTransform, copyOpacity}
 use Rattle.repeater.proofs.Enlarged.{RepeaterTwin, Moved, copy-moved, count-same, opacity-same}
-use Rattle.copies.specs.declared.Verdict.{Verdict}
-use Rattle.copies.specs.declared.Verdict.the-variants.{Fault, Sound}
-use Rattle.copies.specs.Answers.{refused, answered}
 use Rattle.copies.specs.Enlarged.{movedNumbers, movedAnswer}
 use Rattle.copies.specs.Order.{orderOf, copyOrder}
-use Rattle.copies.specs.Calls.{repeaterNumbers, repeaterLimit, hasTooMany, verdictOf, after, orderAnswer, copyNumbers, allFinite, finiteAnswer, copyAnswer, transformAnswer}
-use Rattle.copies.proofs.Ways.{offset-within, count-few}
+use Rattle.copies.specs.Calls.{repeaterNumbers, repeaterLimit, hasTooMany, repeaterChecks}
+use Rattle.copies.specs.Calls.{orderAnswer, copyNumbers, allFinite, copyAnswer, transformAnswer}
+use Rattle.copies.proofs.Ways.{finiteOnly, offset-within, count-few}
 
 limit-value : HasValue repeaterLimit false (2 ^ 20) 1
 unfolding ofBits
@@ -38,7 +38,13 @@ limit-value = (refl, refl)
 
 -- a number of the grid and its multiple are within the limit
 grid-within : (b : ℕ) (x : Float) → b ≤ 20 → On 10 b x → within repeaterLimit x ≡ true
-grid-within b x B X = is-true (within repeaterLimit x) (Limits.within 10 20 x repeaterLimit (2 ^ 20) 1 (weaken 10 b 10 20 x (le-refl 10) B X) (lit< tt) limit-value (lit≤ tt))
+grid-within b x B X =
+    is-true (within repeaterLimit x)
+    (Limits.within 10 20 x repeaterLimit (2 ^ 20) 1 (weaken 10 b 10 20 x (le-refl 10) B X) (lit< tt) limit-value (lit≤ tt))
+
+-- an answer behind checks is moved, and a refusal stays
+checks-moved : (k : ℕ) (cs : List Check) (o o' : Outcome (List Float)) → (AllPass cs → o' ≡ movedAnswer k o) → checked cs o' ≡ movedAnswer k (checked cs o)
+checks-moved k cs o o' last = checks-relate (λ (x y : Outcome (List Float)). x ≡ movedAnswer k y) (λ r. refl) cs o' o last
 
 module _ {k : ℕ} (K : k ≤ 6) where
   within-same : {x x' : Float} → Twin k 10 13 x x' → within repeaterLimit x' ≡ within repeaterLimit x
@@ -48,7 +54,8 @@ module _ {k : ℕ} (K : k ≤ 6) where
 
   finite-same : {q b : ℕ} {x x' : Float} → Twin k q b x x' → finite x' ≡ finite x
   finite-same {q} {b} {x} {x'} X =
-      ap finite (X .is) ∙ is-true (finite (scale k x)) (bounded-finite (2 ^ (b + k)) (scale k x) (on-bounded q (b + k) (scale k x) (scale-on k q b x (X .grid))))
+      ap finite (X .is)
+      ∙ is-true (finite (scale k x)) (bounded-finite (2 ^ (b + k)) (scale k x) (on-bounded q (b + k) (scale k x) (scale-on k q b x (X .grid))))
       ∙ sym (is-true (finite x) (bounded-finite (2 ^ b) x (on-bounded q b x (X .grid))))
 
   module _ {q b : ℕ} {m m' : Matrix} (M : Moved k q b m m') (o o' : Float) (O : o' ≡ o) where
@@ -71,15 +78,13 @@ module _ {k : ℕ} (K : k ≤ 6) where
     finite-moved : allFinite (copyNumbers m' o') ≡ allFinite (copyNumbers m o)
     unfolding copyNumbers allFinite
     finite-moved =
-        λ i. finite (a-same i) && (finite (b-same i) && (finite (c-same i) && (finite (d-same i) && (finite-same (M .e-twin) i && (finite-same (M .f-twin) i && (finite (O i) && true))))))
+        λ i. finite (a-same i) && (finite (b-same i) && (finite (c-same i) && (finite (d-same i)
+        && (finite-same (M .e-twin) i && (finite-same (M .f-twin) i && (finite (O i) && true))))))
 
-    answer-moved : finiteAnswer (copyNumbers m' o') ≡ movedAnswer k (finiteAnswer (copyNumbers m o))
-    unfolding finiteAnswer
-    answer-moved = (λ i. cond (finite-moved i) (answered (numbers-moved i)) (refused NotFinite)) ∙ go (allFinite (copyNumbers m o))
-      where
-        go : (t : Bool) → cond t (answered (movedNumbers k (copyNumbers m o))) (refused NotFinite) ≡ movedAnswer k (cond t (answered (copyNumbers m o)) (refused NotFinite))
-        go true = refl
-        go false = refl
+    only-moved : finiteOnly (copyNumbers m' o') ≡ movedAnswer k (finiteOnly (copyNumbers m o))
+    only-moved =
+        (λ i. checked ((not (finite-moved i) gives NotFinite) ∷ []) (accepted (numbers-moved i)))
+        ∙ checks-moved k ((not (allFinite (copyNumbers m o)) gives NotFinite) ∷ []) (accepted (copyNumbers m o)) _ (λ pass. refl)
 
   module _ (r r' : RepeaterStyle) (R : RepeaterTwin k r r') (turn-same : r' .rotation ≡ r .rotation) where
     numbers-alike : allWithin repeaterLimit (repeaterNumbers r') ≡ allWithin repeaterLimit (repeaterNumbers r)
@@ -90,39 +95,32 @@ module _ {k : ℕ} (K : k ≤ 6) where
         && (within repeaterLimit ((R .wide-scale' ∙ sym (R .wide-scale)) i) && (within repeaterLimit ((R .high-scale' ∙ sym (R .high-scale)) i)
         && (within repeaterLimit (turn-same i) && (within repeaterLimit (R .start-same i) && (within repeaterLimit (R .end-same i) && true))))))))))
 
-    -- every refusal of the repeater is the same
-    pub verdict-same : verdictOf r' ≡ verdictOf r
-    unfolding verdictOf hasTooMany
-    verdict-same =
-        λ i. cond (lt mostOffset (R .copies-same i) || lt mostOffset (abs (R .offset-same i))) (Fault TooMany)
-        (cond (numbers-alike i) (cond (eq (turn-same i) zero32) Sound (Fault Unsupported)) (Fault OutOfRange))
+    -- each check finds the same
+    checks-same : repeaterChecks r' ≡ repeaterChecks r
+    unfolding repeaterChecks hasTooMany
+    checks-same =
+        λ i. ((lt mostCopies (R .copies-same i) || lt mostOffset (abs (R .offset-same i))) gives TooMany)
+        ∷ (not (numbers-alike i) gives OutOfRange) ∷ (not (eq (turn-same i) zero32) gives Unsupported) ∷ []
 
     pub order-same : r' .mode ≡ r .mode → orderAnswer r' ≡ orderAnswer r
     unfolding orderAnswer copyOrder
-    order-same e = λ i. after (verdict-same i) (answered (orderOf (e i) (count-same k r r' R i)))
+    order-same e = λ i. checked (checks-same i) (accepted (orderOf (e i) (count-same k r r' R i)))
 
     module _ (copy : ℕ) where
-      copy-alike : verdictOf r ≡ Sound → copyAnswer r' copy ≡ movedAnswer k (copyAnswer r copy)
+      copy-alike : AllPass (repeaterChecks r) → copyAnswer r' copy ≡ movedAnswer k (copyAnswer r copy)
       unfolding copyAnswer
-      copy-alike s =
-          ap (λ (n : ℕ). cond (ltb copy n) (finiteAnswer (copyNumbers (copyTransform r' copy) (copyOpacity r' copy))) (refused NoSuchCopy)) (count-same k r r' R)
-          ∙ go (ltb copy (copyCount r)) refl
-        where
-          go : (t : Bool) → ltb copy (copyCount r) ≡ t
-              → cond t (finiteAnswer (copyNumbers (copyTransform r' copy) (copyOpacity r' copy))) (refused NoSuchCopy)
-              ≡ movedAnswer k (cond t (finiteAnswer (copyNumbers (copyTransform r copy) (copyOpacity r copy))) (refused NoSuchCopy))
-          go false e = refl
-          go true e =
-              let there : copy < copyCount r = ltb-true copy (copyCount r) e in
-              let few : copyCount r ≤ 4096 = count-few r s in
-              let h : copy ≤ 4096 = omega arith in
-              answer-moved (copy-moved k K r r' R (offset-within r s) copy h) (copyOpacity r copy) (copyOpacity r' copy) (opacity-same k r r' R copy)
+      copy-alike pass =
+          let numbers' = copyNumbers (copyTransform r' copy) (copyOpacity r' copy) in
+          ap (λ (n : ℕ). checked ((not (ltb copy n) gives NoSuchCopy) ∷ []) (finiteOnly numbers')) (count-same k r r' R)
+          ∙ checks-moved k ((not (ltb copy (copyCount r)) gives NoSuchCopy) ∷ []) _ _ (λ found.
+          let there : copy < copyCount r = ltb-true copy (copyCount r) (not-false _ (found .0)) in
+          let few : copyCount r ≤ 4096 = count-few r pass in
+          let h : copy ≤ 4096 = omega arith in
+          only-moved (copy-moved k K r r' R (offset-within r pass) copy h) (copyOpacity r copy) (copyOpacity r' copy) (opacity-same k r r' R copy))
 
       -- the answer is the same refusal, or the same numbers with e and f multiplied
       pub copy-twins : transformAnswer r' copy ≡ movedAnswer k (transformAnswer r copy)
       unfolding transformAnswer
-      copy-twins = ap (λ (v : Verdict). after v (copyAnswer r' copy)) verdict-same ∙ go (verdictOf r) refl
-        where
-          go : (v : Verdict) → verdictOf r ≡ v → after v (copyAnswer r' copy) ≡ movedAnswer k (after v (copyAnswer r copy))
-          go (Fault f) e = unfold after in refl
-          go Sound e = unfold after in copy-alike e
+      copy-twins =
+          ap (λ (cs : List Check). checked cs (copyAnswer r' copy)) checks-same
+          ∙ checks-moved k (repeaterChecks r) (copyAnswer r copy) (copyAnswer r' copy) copy-alike

@@ -15,7 +15,7 @@ use lib.Ieee.Fits.{down-pos}
 use lib.Ieee.Scale.{finite}
 use lib.ListN.{length, getD, drop, set, length-set, drop-of-length-le}
 use lib.Seq.{sets, length-sets, drop-cons}
-use borrow.Author.Tests.{eq-eqb, ne-eqb, lt-ltb, le-ltb, le-leb, lt-leb}
+use borrow.Author.Tests.{eq-eqb, ne-eqb, lt-ltb, le-ltb, le-leb, lt-leb, not-false}
 use Rattle.ieee.specs.Literal.{zero32}
 use Rattle.ieee.specs.Sign.{abs, isNumber}
 use Rattle.ieee.specs.Limit.{within, allWithin, Bounded}
@@ -26,46 +26,49 @@ use Rattle.ieee.proofs.Whole.{up-mono}
 use Rattle.count.specs.Count.{countUp, countLimit}
 use Rattle.command.specs.declared.Refusal.{Refusal}
 use Rattle.command.specs.declared.Refusal.the-variants.{TooMany, OutOfRange, Unsupported, NoSuchCopy, NotFinite, BufferTooSmall}
-use Rattle.command.specs.Commands.{onto}
 use Rattle.command.specs.Refusals.{refusalNumber}
-use Rattle.command.proofs.Buffers.{sets-append, sets-onto}
+use Rattle.command.specs.Outcomes.{Outcome, refused, accepted, andThen, _gives_, checked}
+use Rattle.command.specs.Buffers.{fitted, inBuffer, Filled}
+use Rattle.command.proofs.Outcomes.{AllPass, checks-relate, checks-passed}
+use Rattle.command.proofs.Buffers.{sets-append, fitted-accepted, fitted-refused, unfilled, filled}
 use Rattle.repeater.specs.declared.Matrix.{Matrix}
 use Rattle.repeater.specs.declared.RepeaterStyle.{RepeaterStyle}
-use Rattle.repeater.specs.Repeater.{mostOffset, copyCount, copyTransform, copyOpacity}
+use Rattle.repeater.specs.Repeater.{mostCopies, mostOffset, copyCount, copyTransform, copyOpacity}
 use Rattle.copies.specs.declared.Verdict.{Verdict}
 use Rattle.copies.specs.declared.Verdict.the-variants.{Fault, Sound}
 use Rattle.copies.specs.declared.Written.{Written}
-use Rattle.copies.specs.Answers.{Answer, refused, answered, answerNumber, answerList, fitted, Filled, writtenNumber, writtenCount}
+use Rattle.copies.specs.Outcomes.{verdict, writtenNumber, writtenCount}
 use Rattle.copies.specs.Order.{rising, falling, orderOf, copyOrder}
-use Rattle.copies.specs.Calls.{repeaterNumbers, hasTooMany, repeaterLimit, verdictOf, after, orderAnswer, copyNumbers, allFinite, finiteAnswer, copyAnswer, transformAnswer}
+use Rattle.copies.specs.Calls.{repeaterNumbers, hasTooMany, repeaterLimit, repeaterChecks}
+use Rattle.copies.specs.Calls.{orderAnswer, copyNumbers, allFinite, copyAnswer, transformAnswer}
 
 -- ---- verdict_of
 module _ (r : RepeaterStyle) where
-  pub many-offset : lt mostOffset (r .copies) ≡ false → (a : Float) → a ≡ abs (r .offset) → lt mostOffset a ≡ hasTooMany r
+  pub many-offset : lt mostCopies (r .copies) ≡ false → (a : Float) → a ≡ abs (r .offset) → lt mostOffset a ≡ hasTooMany r
   unfolding hasTooMany
   many-offset h a e = ap (lt mostOffset) e ∙ rw h
 
-  pub many-copies : lt mostOffset (r .copies) ≡ true → true ≡ hasTooMany r
+  pub many-copies : lt mostCopies (r .copies) ≡ true → true ≡ hasTooMany r
   unfolding hasTooMany
   many-copies h = rw h
 
   module _ (x : Bool) (x-is : x ≡ hasTooMany r) where
-    pub verdict-many : x ≡ true → Fault TooMany ≡ verdictOf r
-    unfolding verdictOf
+    pub verdict-many : x ≡ true → verdict (Fault TooMany) ≡ checked (repeaterChecks r) (accepted tt)
+    unfolding repeaterChecks
     verdict-many t = rw (sym x-is ∙ t)
 
     module _ (few : x ≡ false) (y : Bool) (y-is : y ≡ allWithin repeaterLimit (repeaterNumbers r)) where
-      pub verdict-beyond : y ≡ false → Fault OutOfRange ≡ verdictOf r
-      unfolding verdictOf
+      pub verdict-beyond : y ≡ false → verdict (Fault OutOfRange) ≡ checked (repeaterChecks r) (accepted tt)
+      unfolding repeaterChecks
       verdict-beyond t = rw (sym x-is ∙ few, sym y-is ∙ t)
 
       module _ (inside : y ≡ true) where
-        pub verdict-sound : eq (r .rotation) zero32 ≡ true → Sound ≡ verdictOf r
-        unfolding verdictOf
+        pub verdict-sound : eq (r .rotation) zero32 ≡ true → verdict Sound ≡ checked (repeaterChecks r) (accepted tt)
+        unfolding repeaterChecks
         verdict-sound t = rw (sym x-is ∙ few, sym y-is ∙ inside, t)
 
-        pub verdict-turned : eq (r .rotation) zero32 ≡ false → Fault Unsupported ≡ verdictOf r
-        unfolding verdictOf
+        pub verdict-turned : eq (r .rotation) zero32 ≡ false → verdict (Fault Unsupported) ≡ checked (repeaterChecks r) (accepted tt)
+        unfolding repeaterChecks
         verdict-turned t = rw (sym x-is ∙ few, sym y-is ∙ inside, t)
 
 pub ruleset verdicts = (many-copies, many-offset, verdict-many, verdict-beyond, verdict-sound, verdict-turned)
@@ -192,38 +195,33 @@ module _ (v : List Float) (i : ℕ) (left : allFinite (drop i v) ≡ allFinite v
 pub ruleset finites = (finite-all, finite-next, finite-not, finite-end)
 
 -- ---- put_copy
-pub copy-put : (m : Matrix) (o : Float) (l l' : List Float) (last : ℕ) → l' ≡ sets l 0 (m .a ∷ m .b ∷ m .c ∷ m .d ∷ m .e ∷ m .f ∷ []) → last ≡ 0 + 6 → set l' last o ≡ sets l 0 (copyNumbers m o)
-unfolding copyNumbers
-copy-put m o l l' last e f = rw (e, f) (sym (sets-append (m .a ∷ m .b ∷ m .c ∷ m .d ∷ m .e ∷ m .f ∷ []) (o ∷ []) l 0))
+abbrev six : Matrix → List Float
+six m = m .a ∷ m .b ∷ m .c ∷ m .d ∷ m .e ∷ m .f ∷ []
 
-pub copy-place : (l l' : List Float) (m : Matrix) (last : ℕ) → l' ≡ sets l 0 (m .a ∷ m .b ∷ m .c ∷ m .d ∷ m .e ∷ m .f ∷ []) → last ≡ 0 + 6 → 7 ≤ length l → last < length l'
-copy-place l l' m last e f h = rw (e, length-sets l 0 (m .a ∷ m .b ∷ m .c ∷ m .d ∷ m .e ∷ m .f ∷ [])) (omega arith)
+module _ (m : Matrix) (l l' : List Float) (last : ℕ) (e : l' ≡ sets l 0 (six m)) (f : last ≡ 0 + 6) where
+  pub copy-put : (o : Float) → set l' last o ≡ sets l 0 (copyNumbers m o)
+  unfolding copyNumbers
+  copy-put o = rw (e, f) (sym (sets-append (six m) (o ∷ []) l 0))
+
+  pub copy-place : 7 ≤ length l → last < length l'
+  copy-place h = rw (e, length-sets l 0 (six m)) (omega arith)
 
 pub ruleset puts = (copy-put, copy-place)
 
--- ---- answers
-module _ {A : Type 0} {a : Answer A} {l : List A} where
-  filled-refused : (r : Refusal) → refused r ≡ a → Filled a (refusalNumber r) 0 l l
-  filled-refused r e = record { number-is = ap answerNumber e; count-is = ap (λ (b : Answer A). length (answerList b)) e; filled = ap (λ (b : Answer A). onto (answerList b) l) e }
+-- ---- the last check
+module _ {A : Type 0} (l : List A) where
+  module _ (xs : List A) (n : ℕ) (n-is : length xs ≡ n) where
+    fits : n ≤ length l → (l' : List A) → l' ≡ sets l 0 xs → Filled (fitted (inBuffer (length l)) (accepted xs)) 0 n l l'
+    fits h l' e =
+        let room : length xs ≤ length l = rw n-is h in
+        rw (fitted-accepted (inBuffer (length l)) xs (le-leb (length xs) (length l) room)) (filled xs l l' n room (sym n-is) e)
 
-  filled-answered : (xs : List A) → answered xs ≡ a → (n : ℕ) → n ≡ length xs → (l' : List A) → l' ≡ onto xs l → Filled a 0 n l l'
-  filled-answered xs e n n-is l' l-is = record {
-    number-is = ap answerNumber e;
-    count-is = n-is ∙ ap (λ (b : Answer A). length (answerList b)) e;
-    filled = l-is ∙ ap (λ (b : Answer A). onto (answerList b) l) e;
-  }
+    short : length l < n → Filled (fitted (inBuffer (length l)) (accepted xs)) (refusalNumber BufferTooSmall) 0 l l
+    short h = rw (fitted-refused (inBuffer (length l)) xs (lt-leb (length xs) (length l) (rw n-is h))) (unfilled BufferTooSmall l)
 
-fits : {A : Type 0} (n : ℕ) (xs : List A) → length xs ≤ n → answered xs ≡ fitted n (answered xs)
-unfolding fitted
-fits n xs h = rw (le-leb (length xs) n h)
-
-short : {A : Type 0} (n : ℕ) (xs : List A) → n < length xs → refused BufferTooSmall ≡ fitted n (answered xs)
-unfolding fitted
-short n xs h = rw (lt-leb (length xs) n h)
-
-back : {A : Type 0} (n : ℕ) (r : Refusal) (a : Answer A) → refused r ≡ a → refused r ≡ fitted n a
-unfolding fitted
-back n r a e = ap (fitted n) e
+  turned-back : (r : Refusal) (o : Outcome (List A)) → o ≡ refused r → Filled (fitted (inBuffer (length l)) o) (refusalNumber r) 0 l l
+  unfolding fitted
+  turned-back r o e = rw e (unfilled r l)
 
 -- ---- write_order
 rising-length : (i n : ℕ) → length (rising i n) ≡ n
@@ -245,119 +243,105 @@ order-length mode n = go (eqb mode 1)
     go false = falling-length n
 
 module _ (mode n : ℕ) (l : List ℕ) where
-  pub order-written : (l' : List ℕ) → l' ≡ sets l 0 (orderOf mode n) → n ≤ length l → Filled (fitted (length l) (answered (orderOf mode n))) 0 n l l'
-  order-written l' e h =
-      let k : length (orderOf mode n) ≤ length l = rw (order-length mode n) h in
-      filled-answered (orderOf mode n) (fits (length l) (orderOf mode n) k) n (sym (order-length mode n)) l' (e ∙ sets-onto (orderOf mode n) l k)
+  pub order-written : (l' : List ℕ) → l' ≡ sets l 0 (orderOf mode n) → n ≤ length l → Filled (fitted (inBuffer (length l)) (accepted (orderOf mode n))) 0 n l l'
+  order-written l' e h = fits l (orderOf mode n) n (order-length mode n) h l' e
 
-  pub order-short : length l < n → Filled (fitted (length l) (answered (orderOf mode n))) (refusalNumber BufferTooSmall) 0 l l
-  order-short h = filled-refused BufferTooSmall (short (length l) (orderOf mode n) (rw (order-length mode n) h))
+  pub order-short : length l < n → Filled (fitted (inBuffer (length l)) (accepted (orderOf mode n))) (refusalNumber BufferTooSmall) 0 l l
+  order-short h = short l (orderOf mode n) n (order-length mode n) h
 
 pub ruleset writes = (order-written, order-short)
 
--- ---- what a sound repeater is
-most-value : HasValue mostOffset false 4096 1
+-- ---- a repeater that passes its checks
+most-value : HasValue mostCopies false 4096 1
 unfolding ofBits
 most-value = (refl, refl)
 
 whole-most : wholeUp 4096 1 ≡ 4096
 whole-most = refl
 
-most-number : T (isNumber mostOffset)
-unfolding ofBits ofFields
-most-number = tt
-
-not-above : (x : Float) → T (isNumber x) → lt mostOffset x ≡ false → le x mostOffset ≡ true
-not-above x h l = is-true (le x mostOffset) (not-lt→le mostOffset x most-number h (subst (λ (b : Bool). T (not b)) (sym l) tt))
+not-above : (most x : Float) → T (isNumber most) → T (isNumber x) → lt most x ≡ false → le x most ≡ true
+not-above most x M h l = is-true (le x most) (not-lt→le most x M h (subst (λ (b : Bool). T (not b)) (sym l) tt))
 
 within-number : (x : Float) → within countLimit x ≡ true → T (isNumber x)
 within-number nan h = absurd (true≢false (sym (unfold le in h)))
 within-number (inf s) h = tt
 within-number (fin s m d) h = tt
 
-abbrev IsSound : Verdict → Type 0
-IsSound (Fault r) = ⊥
-IsSound Sound = Unit {0}
+few : (x : Float) → T (isNumber x) → lt mostCopies x ≡ false → countUp x ≤ 4096
+unfolding ofBits ofFields
+few nan h l = zero-le
+few (inf s) h l = zero-le
+few (fin true m d) h l = zero-le
+few (fin false m d) h l =
+    let b : Bounded 4096 (fin false m d) = within→bounded 4096 mostCopies (fin false m d) most-value (not-above mostCopies (fin false m d) tt h l) in
+    subst (λ (k : ℕ). wholeUp (m * up d) (down d) ≤ k) whole-most
+    (up-mono (m * up d) (down d) 4096 1 (down-pos d) (lit< tt) (subst (λ (k : ℕ). k ≤ 4096 * down d) (sym (mul-one (m * up d))) b))
 
-fault-sound : (r : Refusal) {A : Type 0} → Fault r ≡ Sound → A
-fault-sound r e = absurd (subst IsSound (sym e) tt)
+module _ (r : RepeaterStyle) (pass : AllPass (repeaterChecks r)) where
+  not-many : (lt mostCopies (r .copies) ≡ false) × (lt mostOffset (abs (r .offset)) ≡ false)
+  unfolding repeaterChecks hasTooMany
+  not-many = go (lt mostCopies (r .copies)) (lt mostOffset (abs (r .offset))) (pass .0)
+    where
+      go : (a b : Bool) → (a || b) ≡ false → (a ≡ false) × (b ≡ false)
+      go true b e = absurd (true≢false e)
+      go false b e = (refl, e)
 
-sound-splits : (r : RepeaterStyle) → verdictOf r ≡ Sound → (lt mostOffset (r .copies) ≡ false) × (lt mostOffset (abs (r .offset)) ≡ false) × (allWithin repeaterLimit (repeaterNumbers r) ≡ true)
-unfolding verdictOf hasTooMany
-sound-splits r e = go (lt mostOffset (r .copies)) (lt mostOffset (abs (r .offset))) (allWithin repeaterLimit (repeaterNumbers r)) (eq (r .rotation) zero32) e
-  where
-    go : (a b c d : Bool) → cond (a || b) (Fault TooMany) (cond c (cond d Sound (Fault Unsupported)) (Fault OutOfRange)) ≡ Sound → (a ≡ false) × (b ≡ false) × (c ≡ true)
-    go true b c d e = fault-sound TooMany e
-    go false true c d e = fault-sound TooMany e
-    go false false true d e = (refl, refl, refl)
-    go false false false d e = fault-sound OutOfRange e
+  numbers-within : allWithin repeaterLimit (repeaterNumbers r) ≡ true
+  unfolding repeaterChecks
+  numbers-within = not-false (allWithin repeaterLimit (repeaterNumbers r)) (pass .1 .0)
 
-module _ (r : RepeaterStyle) (e : verdictOf r ≡ Sound) where
   pub copies-within : within countLimit (r .copies) ≡ true
   unfolding allWithin
-  copies-within = and-eq-true-iff (within repeaterLimit (r .copies)) _ .0 (sound-splits r e .2) .0
+  copies-within = and-eq-true-iff (within repeaterLimit (r .copies)) _ .0 numbers-within .0
 
   offset-limit : within repeaterLimit (r .offset) ≡ true
   unfolding allWithin
-  offset-limit = and-eq-true-iff (within repeaterLimit (r .offset)) _ .0 (and-eq-true-iff (within repeaterLimit (r .copies)) _ .0 (sound-splits r e .2) .1) .0
+  offset-limit = and-eq-true-iff (within repeaterLimit (r .offset)) _ .0 (and-eq-true-iff (within repeaterLimit (r .copies)) _ .0 numbers-within .1) .0
 
   pub offset-within : within mostOffset (r .offset) ≡ true
-  offset-within = not-above (abs (r .offset)) (le-number-l (abs (r .offset)) repeaterLimit (subst T (sym offset-limit) tt)) (sound-splits r e .1)
-
-  few : (x : Float) → T (isNumber x) → lt mostOffset x ≡ false → countUp x ≤ 4096
-  few nan h l = zero-le
-  few (inf s) h l = zero-le
-  few (fin true m d) h l = zero-le
-  few (fin false m d) h l =
-      let b : Bounded 4096 (fin false m d) = within→bounded 4096 mostOffset (fin false m d) most-value (not-above (fin false m d) h l) in
-      subst (λ (k : ℕ). wholeUp (m * up d) (down d) ≤ k) whole-most (up-mono (m * up d) (down d) 4096 1 (down-pos d) (lit< tt) (subst (λ (k : ℕ). k ≤ 4096 * down d) (sym (mul-one (m * up d))) b))
+  unfolding ofBits ofFields
+  offset-within = not-above mostOffset (abs (r .offset)) tt (le-number-l (abs (r .offset)) repeaterLimit (subst T (sym offset-limit) tt)) (not-many .1)
 
   pub count-few : copyCount r ≤ 4096
   unfolding copyCount
-  count-few = few (r .copies) (within-number (r .copies) copies-within) (sound-splits r e .0)
+  count-few = few (r .copies) (within-number (r .copies) copies-within) (not-many .0)
 
 -- ---- copy_order, copy_transform
-module _ (r : RepeaterStyle) (v : Verdict) (v-is : v ≡ verdictOf r) where
+module _ (r : RepeaterStyle) (v : Verdict) (v-is : verdict v ≡ checked (repeaterChecks r) (accepted tt)) where
+  -- what stands behind the checks is answered where the verdict is no fault
+  behind : {A : Type 0} (w : Verdict) → v ≡ w → (o : Outcome A) → checked (repeaterChecks r) o ≡ andThen (verdict w) (λ _. o)
+  behind {A} w e o =
+      checks-relate (λ (x : Outcome A) (y : Outcome (Unit {0})). x ≡ andThen y (λ _. o)) (λ f. refl) (repeaterChecks r) o (accepted tt) (λ pass. refl)
+      ∙ ap (λ (y : Outcome (Unit {0})). andThen y (λ _. o)) (sym v-is ∙ ap verdict e)
+
   module _ (f : Refusal) (e : v ≡ Fault f) where
-    fault-after : {A : Type 0} (a : Answer A) → refused f ≡ after (verdictOf r) a
-    unfolding after
-    fault-after a = ap (λ (w : Verdict). after w a) (sym e ∙ v-is)
-
-    pub order-fault : (l : List ℕ) → Filled (fitted (length l) (orderAnswer r)) (refusalNumber f) 0 l l
+    pub order-fault : (l : List ℕ) → Filled (fitted (inBuffer (length l)) (orderAnswer r)) (refusalNumber f) 0 l l
     unfolding orderAnswer
-    order-fault l = filled-refused f (back (length l) f (orderAnswer r) (fault-after (answered (copyOrder r))))
+    order-fault l = turned-back l f (orderAnswer r) (behind (Fault f) e (accepted (copyOrder r)))
 
-    pub copy-fault : (copy : ℕ) (l : List Float) → Filled (fitted (length l) (transformAnswer r copy)) (refusalNumber f) 0 l l
+    pub copy-fault : (copy : ℕ) (l : List Float) → Filled (fitted (inBuffer (length l)) (transformAnswer r copy)) (refusalNumber f) 0 l l
     unfolding transformAnswer
-    copy-fault copy l = filled-refused f (back (length l) f (transformAnswer r copy) (fault-after (copyAnswer r copy)))
+    copy-fault copy l = turned-back l f (transformAnswer r copy) (behind (Fault f) e (copyAnswer r copy))
 
   module _ (e : v ≡ Sound) where
-    pub is-sound : verdictOf r ≡ Sound
-    is-sound = sym v-is ∙ e
-
-    sound-after : {A : Type 0} (a : Answer A) → a ≡ after (verdictOf r) a
-    unfolding after
-    sound-after a = ap (λ (w : Verdict). after w a) (sym e ∙ v-is)
-
-    pub order-copies : within countLimit (r .copies) ≡ true
-    order-copies = copies-within r is-sound
+    pub all-pass : AllPass (repeaterChecks r)
+    all-pass = checks-passed (repeaterChecks r) (verdict Sound) tt (behind Sound e (verdict Sound)) .0
 
     pub order-few : (n : ℕ) → n ≡ copyCount r → n ≤ 4096
-    order-few n n-is = rw n-is (count-few r is-sound)
+    order-few n n-is = rw n-is (count-few r all-pass)
 
-    pub order-sound : (n : ℕ) → n ≡ copyCount r → (w : Written) (l l' : List ℕ) → Filled (fitted (length l) (answered (orderOf (r .mode) n))) (writtenNumber w) (writtenCount w) l l'
-        → Filled (fitted (length l) (orderAnswer r)) (writtenNumber w) (writtenCount w) l l'
-    unfolding orderAnswer copyOrder
-    order-sound n n-is w l l' F =
-        subst (λ (a : Answer ℕ). Filled (fitted (length l) a) (writtenNumber w) (writtenCount w) l l')
-        (ap (λ (k : ℕ). answered (orderOf (r .mode) k)) n-is ∙ sound-after (answered (orderOf (r .mode) (copyCount r)))) F
+    module _ (number count : ℕ) where
+      pub order-sound : (n : ℕ) → n ≡ copyCount r → (l l' : List ℕ) → Filled (fitted (inBuffer (length l)) (accepted (orderOf (r .mode) n))) number count l l'
+          → Filled (fitted (inBuffer (length l)) (orderAnswer r)) number count l l'
+      unfolding orderAnswer copyOrder
+      order-sound n n-is l l' F = rw (behind Sound e (accepted (copyOrder r)), ← n-is) F
 
-    pub copy-sound : (copy : ℕ) (w : Written) (l l' : List Float) → Filled (fitted (length l) (copyAnswer r copy)) (writtenNumber w) (writtenCount w) l l'
-        → Filled (fitted (length l) (transformAnswer r copy)) (writtenNumber w) (writtenCount w) l l'
-    unfolding transformAnswer
-    copy-sound copy w l l' F = subst (λ (a : Answer Float). Filled (fitted (length l) a) (writtenNumber w) (writtenCount w) l l') (sound-after (copyAnswer r copy)) F
+      pub copy-sound : (copy : ℕ) (l l' : List Float) → Filled (fitted (inBuffer (length l)) (copyAnswer r copy)) number count l l'
+          → Filled (fitted (inBuffer (length l)) (transformAnswer r copy)) number count l l'
+      unfolding transformAnswer
+      copy-sound copy l l' F = rw (behind Sound e (copyAnswer r copy)) F
 
-pub ruleset calls = (order-fault, copy-fault, is-sound, order-copies, order-few, order-sound, copy-sound)
+pub ruleset calls = (order-fault, copy-fault, all-pass, copies-within, order-few, order-sound, copy-sound)
 
 -- ---- write_copy
 pub finite-copy : (m : Matrix) (o : Float) (x : Bool) → x ≡ allFinite (m .a ∷ m .b ∷ m .c ∷ m .d ∷ m .e ∷ m .f ∷ o ∷ []) → x ≡ allFinite (copyNumbers m o)
@@ -368,64 +352,53 @@ seven : (m : Matrix) (o : Float) → length (copyNumbers m o) ≡ 7
 unfolding copyNumbers
 seven m o = refl
 
+-- numbers, refused where one is not finite
+abbrev pub finiteOnly : List Float → Outcome (List Float)
+finiteOnly xs = checked ((not (allFinite xs) gives NotFinite) ∷ []) (accepted xs)
+
 module _ (m : Matrix) (o : Float) (x : Bool) (x-is : x ≡ allFinite (copyNumbers m o)) (l : List Float) where
-  pub copy-burst : x ≡ false → Filled (fitted (length l) (finiteAnswer (copyNumbers m o))) (refusalNumber NotFinite) 0 l l
-  copy-burst t = filled-refused NotFinite (back (length l) NotFinite (finiteAnswer (copyNumbers m o)) is)
-    where
-      is : refused NotFinite ≡ finiteAnswer (copyNumbers m o)
-      is = unfold finiteAnswer in (rw (sym x-is ∙ t))
+  pub copy-burst : x ≡ false → Filled (fitted (inBuffer (length l)) (finiteOnly (copyNumbers m o))) (refusalNumber NotFinite) 0 l l
+  copy-burst t = turned-back l NotFinite (finiteOnly (copyNumbers m o)) (rw (sym x-is ∙ t))
 
   module _ (t : x ≡ true) where
-    finite-is : answered (copyNumbers m o) ≡ finiteAnswer (copyNumbers m o)
-    unfolding finiteAnswer
-    finite-is = rw (sym x-is ∙ t)
+    pub copy-short : length l < 7 → Filled (fitted (inBuffer (length l)) (finiteOnly (copyNumbers m o))) (refusalNumber BufferTooSmall) 0 l l
+    copy-short h = rw (sym x-is ∙ t) (short l (copyNumbers m o) 7 (seven m o) h)
 
-    pub copy-short : length l < 7 → Filled (fitted (length l) (finiteAnswer (copyNumbers m o))) (refusalNumber BufferTooSmall) 0 l l
-    copy-short h =
-        filled-refused BufferTooSmall
-        (short (length l) (copyNumbers m o) (subst (λ (k : ℕ). length l < k) (sym (seven m o)) h) ∙ ap (fitted (length l)) finite-is)
-
-    pub copy-written : 7 ≤ length l → (l' : List Float) → l' ≡ sets l 0 (copyNumbers m o) → Filled (fitted (length l) (finiteAnswer (copyNumbers m o))) 0 7 l l'
-    copy-written h l' e =
-        let k : length (copyNumbers m o) ≤ length l = subst (λ (n : ℕ). n ≤ length l) (sym (seven m o)) h in
-        filled-answered (copyNumbers m o) (fits (length l) (copyNumbers m o) k ∙ ap (fitted (length l)) finite-is) 7 (sym (seven m o)) l' (e ∙ sets-onto (copyNumbers m o) l k)
+    pub copy-written : 7 ≤ length l → (l' : List Float) → l' ≡ sets l 0 (copyNumbers m o)
+        → Filled (fitted (inBuffer (length l)) (finiteOnly (copyNumbers m o))) 0 7 l l'
+    copy-written h l' e = rw (sym x-is ∙ t) (fits l (copyNumbers m o) 7 (seven m o) h l' e)
 
 pub ruleset written = (finite-copy, copy-burst, copy-short, copy-written)
 
 -- ---- write_sound
-module _ (r : RepeaterStyle) (e : verdictOf r ≡ Sound) (n : ℕ) (n-is : n ≡ copyCount r) (copy : ℕ) where
-  pub copy-missing : n ≤ copy → (l : List Float) → Filled (fitted (length l) (copyAnswer r copy)) (refusalNumber NoSuchCopy) 0 l l
-  copy-missing h l = filled-refused NoSuchCopy (back (length l) NoSuchCopy (copyAnswer r copy) is)
-    where
-      is : refused NoSuchCopy ≡ copyAnswer r copy
-      is = unfold copyAnswer in (rw (le-ltb copy (copyCount r) (subst (λ (k : ℕ). k ≤ copy) n-is h)))
+module _ (r : RepeaterStyle) (pass : AllPass (repeaterChecks r)) (n : ℕ) (n-is : n ≡ copyCount r) (copy : ℕ) where
+  pub copy-missing : n ≤ copy → (l : List Float) → Filled (fitted (inBuffer (length l)) (copyAnswer r copy)) (refusalNumber NoSuchCopy) 0 l l
+  unfolding copyAnswer
+  copy-missing h l = turned-back l NoSuchCopy (copyAnswer r copy) (rw (le-ltb copy (copyCount r) (subst (λ (k : ℕ). k ≤ copy) n-is h)))
 
   module _ (h : copy < n) where
     pub copy-few : copy ≤ 4096
-    copy-few = let a = count-few r e in omega arith
+    copy-few = let a = count-few r pass in omega arith
 
     pub copy-small : copy ≤ 2 ^ 24
     copy-small = let a = copy-few in le-trans a (lit≤ tt)
 
-    pub copy-told : (m : Matrix) (o : Float) → m ≡ copyTransform r copy → o ≡ copyOpacity r copy → (w : Written) (l l' : List Float)
-        → Filled (fitted (length l) (finiteAnswer (copyNumbers m o))) (writtenNumber w) (writtenCount w) l l' → Filled (fitted (length l) (copyAnswer r copy)) (writtenNumber w) (writtenCount w) l l'
-    copy-told m o m-is o-is w l l' F =
-        subst (λ (a : Answer Float). Filled (fitted (length l) a) (writtenNumber w) (writtenCount w) l l') ((λ i. finiteAnswer (copyNumbers (m-is i) (o-is i))) ∙ is) F
-      where
-        is : finiteAnswer (copyNumbers (copyTransform r copy) (copyOpacity r copy)) ≡ copyAnswer r copy
-        is = unfold copyAnswer in (rw (lt-ltb copy (copyCount r) (subst (λ (k : ℕ). copy < k) n-is h)))
+    pub copy-told : (m : Matrix) (o : Float) → m ≡ copyTransform r copy → o ≡ copyOpacity r copy → (number count : ℕ) (l l' : List Float)
+        → Filled (fitted (inBuffer (length l)) (finiteOnly (copyNumbers m o))) number count l l'
+        → Filled (fitted (inBuffer (length l)) (copyAnswer r copy)) number count l l'
+    unfolding copyAnswer
+    copy-told m o m-is o-is number count l l' F = rw (lt-ltb copy (copyCount r) (subst (λ (k : ℕ). copy < k) n-is h), ← m-is, ← o-is) F
 
 pub ruleset sounds = (copies-within, offset-within, copy-missing, copy-few, copy-small, copy-told)
 
 -- ---- callers that tell the answer in a number and a count
 module _ (r r' : RepeaterStyle) (e : r ≡ r') (w : Written) (number count : ℕ) (number-is : number ≡ writtenNumber w) (count-is : count ≡ writtenCount w) where
-  pub order-told : (l l' : List ℕ) → Filled (fitted (length l) (orderAnswer r)) (writtenNumber w) (writtenCount w) l l' → Filled (fitted (length l) (orderAnswer r')) number count l l'
-  order-told l l' F =
-      rw (number-is, count-is) (subst (λ (s : RepeaterStyle). Filled (fitted (length l) (orderAnswer s)) (writtenNumber w) (writtenCount w) l l') e F)
+  pub order-told : (l l' : List ℕ) → Filled (fitted (inBuffer (length l)) (orderAnswer r)) (writtenNumber w) (writtenCount w) l l'
+      → Filled (fitted (inBuffer (length l)) (orderAnswer r')) number count l l'
+  order-told l l' F = rw (number-is, count-is, ← e) F
 
-  pub transform-told : (copy : ℕ) (l l' : List Float) → Filled (fitted (length l) (transformAnswer r copy)) (writtenNumber w) (writtenCount w) l l'
-      → Filled (fitted (length l) (transformAnswer r' copy)) number count l l'
-  transform-told copy l l' F =
-      rw (number-is, count-is) (subst (λ (s : RepeaterStyle). Filled (fitted (length l) (transformAnswer s copy)) (writtenNumber w) (writtenCount w) l l') e F)
+  pub transform-told : (copy : ℕ) (l l' : List Float) → Filled (fitted (inBuffer (length l)) (transformAnswer r copy)) (writtenNumber w) (writtenCount w) l l'
+      → Filled (fitted (inBuffer (length l)) (transformAnswer r' copy)) number count l l'
+  transform-told copy l l' F = rw (number-is, count-is, ← e) F
 
 pub ruleset telling = (order-told, transform-told)

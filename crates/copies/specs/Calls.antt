@@ -1,6 +1,6 @@
 -- What the two calls of a repeater answer, whatever they are given. Definitions only.
 use Prim.Native.Nat.{ℕ}
-use mathlib.Core.Bool.{Bool, true, cond, _&&_, _||_}
+use mathlib.Core.Bool.{Bool, true, not, _&&_, _||_}
 use mathlib.Core.List.{List, [], _∷_}
 use lib.Dec.{ltb}
 use lib.Ieee.{Float, nan, lt, eq}
@@ -10,12 +10,10 @@ use Rattle.ieee.specs.Literal.{zero32, numberLimit}
 use Rattle.ieee.specs.Sign.{abs}
 use Rattle.ieee.specs.Limit.{allWithin}
 use Rattle.command.specs.declared.Refusal.the-variants.{TooMany, OutOfRange, Unsupported, NoSuchCopy, NotFinite}
+use Rattle.command.specs.Outcomes.{Outcome, accepted, Check, _gives_, checked}
 use Rattle.repeater.specs.declared.Matrix.{Matrix}
 use Rattle.repeater.specs.declared.RepeaterStyle.{RepeaterStyle}
 use Rattle.repeater.specs.Repeater.{mostCopies, mostOffset, copyCount, copyTransform, copyOpacity}
-use Rattle.copies.specs.declared.Verdict.{Verdict}
-use Rattle.copies.specs.declared.Verdict.the-variants.{Fault, Sound}
-use Rattle.copies.specs.Answers.{Answer, refused, answered}
 use Rattle.copies.specs.Order.{copyOrder}
 
 -- the eleven numbers that C lends: copies, offset, anchor, position, scale, rotation, start and end opacity
@@ -34,9 +32,11 @@ repeaterOf v mode = record {
 
 abbrev pub repeaterNumbers : RepeaterStyle → List Float
 repeaterNumbers r =
-    r .copies ∷ r .offset ∷ r .anchor .x ∷ r .anchor .y ∷ r .position .x ∷ r .position .y ∷ r .scale .x ∷ r .scale .y ∷ r .rotation ∷ r .«start_opacity» ∷ r .«end_opacity» ∷ []
+    r .copies ∷ r .offset ∷ r .anchor .x ∷ r .anchor .y ∷ r .position .x ∷ r .position .y ∷ r .scale .x ∷ r .scale .y
+    ∷ r .rotation ∷ r .«start_opacity» ∷ r .«end_opacity» ∷ []
 
--- Over 4,096 copies, which is the same of their number and of its ceiling, or an absolute offset over 4,096. An infinity meets this before 3, but copies of minus infinity do not.
+-- Over 4,096 copies, which is the same of their number and of its ceiling, or an absolute offset over 4,096.
+-- An infinity meets this before 3, but copies of minus infinity do not.
 unfoldable pub hasTooMany : RepeaterStyle → Bool
 hasTooMany r = lt mostCopies (r .copies) || lt mostOffset (abs (r .offset))
 
@@ -45,20 +45,18 @@ abbrev pub repeaterLimit : Float
 repeaterLimit = numberLimit
 
 -- the checks 2, 3, and 5 for a rotation that is not zero; the mode may be any
-unfoldable pub verdictOf : RepeaterStyle → Verdict
-verdictOf r =
-    cond (hasTooMany r) (Fault TooMany)
-    (cond (allWithin repeaterLimit (repeaterNumbers r)) (cond (eq (r .rotation) zero32) Sound (Fault Unsupported)) (Fault OutOfRange))
-
-unfoldable pub after : {A : Type 0} → Verdict → Answer A → Answer A
-after (Fault r) a = refused r
-after Sound a = a
+unfoldable pub repeaterChecks : RepeaterStyle → List Check
+repeaterChecks r =
+    (hasTooMany r gives TooMany)
+    ∷ (not (allWithin repeaterLimit (repeaterNumbers r)) gives OutOfRange)
+    ∷ (not (eq (r .rotation) zero32) gives Unsupported)
+    ∷ []
 
 -- the copy order has no 9 and no 10
-unfoldable pub orderAnswer : RepeaterStyle → Answer ℕ
-orderAnswer r = after (verdictOf r) (answered (copyOrder r))
+unfoldable pub orderAnswer : RepeaterStyle → Outcome (List ℕ)
+orderAnswer r = checked (repeaterChecks r) (accepted (copyOrder r))
 
--- a copy's matrix and opacity; 10 where one of them is not finite
+-- a copy's matrix and opacity
 unfoldable pub copyNumbers : Matrix → Float → List Float
 copyNumbers m opacity = m .a ∷ m .b ∷ m .c ∷ m .d ∷ m .e ∷ m .f ∷ opacity ∷ []
 
@@ -66,12 +64,11 @@ unfoldable pub allFinite : List Float → Bool
 allFinite [] = true
 allFinite (x ∷ xs) = finite x && allFinite xs
 
-unfoldable pub finiteAnswer : List Float → Answer Float
-finiteAnswer xs = cond (allFinite xs) (answered xs) (refused NotFinite)
+-- a copy index that is not below the copy count is 9, and numbers of which one is not finite are 10
+unfoldable pub copyAnswer : RepeaterStyle → ℕ → Outcome (List Float)
+copyAnswer r copy =
+    let numbers = copyNumbers (copyTransform r copy) (copyOpacity r copy) in
+    checked ((not (ltb copy (copyCount r)) gives NoSuchCopy) ∷ (not (allFinite numbers) gives NotFinite) ∷ []) (accepted numbers)
 
--- a copy index that is not below the copy count is 9
-unfoldable pub copyAnswer : RepeaterStyle → ℕ → Answer Float
-copyAnswer r copy = cond (ltb copy (copyCount r)) (finiteAnswer (copyNumbers (copyTransform r copy) (copyOpacity r copy))) (refused NoSuchCopy)
-
-unfoldable pub transformAnswer : RepeaterStyle → ℕ → Answer Float
-transformAnswer r copy = after (verdictOf r) (copyAnswer r copy)
+unfoldable pub transformAnswer : RepeaterStyle → ℕ → Outcome (List Float)
+transformAnswer r copy = checked (repeaterChecks r) (copyAnswer r copy)

@@ -1,16 +1,21 @@
 // A repeater answered: the order of its copies, and the numbers of one of them.
 use command::Refusal;
+use point::Point;
 use repeater::Matrix;
-use repeater::Pair;
 use repeater::RepeaterStyle;
 ghost use mathlib.Core.Path.{_≡_};
+ghost use mathlib.Core.Bool.{not};
+ghost use mathlib.Core.List.{[], _∷_};
 ghost use Prim.Native.Nat.{_≤_};
 ghost use lib.ListN.{length};
 ghost use lib.Seq.{sets};
 ghost use Rattle.ieee.specs.Limit.{allWithin};
+ghost use Rattle.command.specs.declared.Refusal.the-variants.{NotFinite};
+ghost use Rattle.command.specs.Outcomes.{accepted, _gives_, checked};
+ghost use Rattle.command.specs.Buffers.{fitted, inBuffer, Filled};
+ghost use Rattle.command.proofs.Outcomes.{AllPass};
 ghost use Rattle.copies.specs.Order.{rising, falling, orderOf};
-ghost use Rattle.copies.specs.declared.Verdict.the-variants.{Sound};
-ghost use Rattle.copies.specs.Answers.{answered, fitted, Filled, writtenNumber, writtenCount};
+ghost use Rattle.copies.specs.Outcomes.{verdict, writtenNumber, writtenCount};
 ghost use Rattle.copies.specs.Calls as spec;
 
 // A repeater from the eleven numbers that C lends.
@@ -22,15 +27,15 @@ pub fn repeater_of(numbers: &[f32], mode: u8) -> RepeaterStyle
         copies: numbers[0],
         offset: numbers[1],
         mode,
-        anchor: Pair {
+        anchor: Point {
             x: numbers[2],
             y: numbers[3],
         },
-        position: Pair {
+        position: Point {
             x: numbers[4],
             y: numbers[5],
         },
-        scale: Pair {
+        scale: Point {
             x: numbers[6],
             y: numbers[7],
         },
@@ -101,7 +106,7 @@ fn is_within(repeater: RepeaterStyle) -> bool
 }
 
 pub fn verdict_of(repeater: RepeaterStyle) -> Verdict
-    ensures { λ r. ⌜ r ≡ spec.verdictOf repeater ⌝ }
+    ensures { λ r. ⌜ verdict r ≡ checked (spec.repeaterChecks repeater) (accepted tt) ⌝ }
 {
     if has_too_many(repeater) {
         return Verdict::Fault(Refusal::TooMany);
@@ -158,7 +163,9 @@ fn put_order(mode: u8, n: usize, order: &mut [u32])
 // The order of n copies, if it fits.
 fn write_order(mode: u8, n: usize, order: &mut [u32]) -> Written
     requires { ⌜ n ≤ 4096 ⌝ }
-    ensures { λ r. ⌜ Filled (fitted (length (now (order .entry))) (answered (orderOf mode n))) (writtenNumber r) (writtenCount r) (now (order .entry)) (now (order .exit)) ⌝ }
+    ensures { λ r. ⌜ Filled
+        (fitted (inBuffer (length (now (order .entry)))) (accepted (orderOf mode n)))
+        (writtenNumber r) (writtenCount r) (now (order .entry)) (now (order .exit)) ⌝ }
 {
     if n <= order.len() {
         put_order(mode, n, order);
@@ -170,7 +177,9 @@ fn write_order(mode: u8, n: usize, order: &mut [u32]) -> Written
 
 // The order of a repeater's copies.
 pub fn copy_order(repeater: RepeaterStyle, order: &mut [u32]) -> Written
-    ensures { λ r. ⌜ Filled (fitted (length (now (order .entry))) (spec.orderAnswer repeater)) (writtenNumber r) (writtenCount r) (now (order .entry)) (now (order .exit)) ⌝ }
+    ensures { λ r. ⌜ Filled
+        (fitted (inBuffer (length (now (order .entry)))) (spec.orderAnswer repeater))
+        (writtenNumber r) (writtenCount r) (now (order .entry)) (now (order .exit)) ⌝ }
 {
     match verdict_of(repeater) {
         Verdict::Fault(refusal) => Written::Refused(refusal),
@@ -214,7 +223,10 @@ fn is_finite_copy(m: Matrix, opacity: f32) -> bool
 
 // The numbers of a copy, if they are finite and fit.
 fn write_copy(m: Matrix, opacity: f32, matrix: &mut [f32]) -> Written
-    ensures { λ r. ⌜ Filled (fitted (length (now (matrix .entry))) (spec.finiteAnswer (spec.copyNumbers m opacity))) (writtenNumber r) (writtenCount r) (now (matrix .entry)) (now (matrix .exit)) ⌝ }
+    ensures { λ r. ⌜ Filled
+        (fitted (inBuffer (length (now (matrix .entry))))
+        (checked ((not (spec.allFinite (spec.copyNumbers m opacity)) gives NotFinite) ∷ []) (accepted (spec.copyNumbers m opacity))))
+        (writtenNumber r) (writtenCount r) (now (matrix .entry)) (now (matrix .exit)) ⌝ }
 {
     if is_finite_copy(m, opacity) {
         if matrix.len() < 7 {
@@ -230,8 +242,10 @@ fn write_copy(m: Matrix, opacity: f32, matrix: &mut [f32]) -> Written
 
 // The numbers of one copy of a sound repeater.
 fn write_sound(repeater: RepeaterStyle, copy: usize, matrix: &mut [f32]) -> Written
-    requires { ⌜ spec.verdictOf repeater ≡ Sound ⌝ }
-    ensures { λ r. ⌜ Filled (fitted (length (now (matrix .entry))) (spec.copyAnswer repeater copy)) (writtenNumber r) (writtenCount r) (now (matrix .entry)) (now (matrix .exit)) ⌝ }
+    requires { ⌜ AllPass (spec.repeaterChecks repeater) ⌝ }
+    ensures { λ r. ⌜ Filled
+        (fitted (inBuffer (length (now (matrix .entry)))) (spec.copyAnswer repeater copy))
+        (writtenNumber r) (writtenCount r) (now (matrix .entry)) (now (matrix .exit)) ⌝ }
 {
     let k = copy as u64;
     if k < repeater::copy_count(repeater) {
@@ -247,7 +261,9 @@ fn write_sound(repeater: RepeaterStyle, copy: usize, matrix: &mut [f32]) -> Writ
 
 // The numbers of one copy.
 pub fn copy_transform(repeater: RepeaterStyle, copy: usize, matrix: &mut [f32]) -> Written
-    ensures { λ r. ⌜ Filled (fitted (length (now (matrix .entry))) (spec.transformAnswer repeater copy)) (writtenNumber r) (writtenCount r) (now (matrix .entry)) (now (matrix .exit)) ⌝ }
+    ensures { λ r. ⌜ Filled
+        (fitted (inBuffer (length (now (matrix .entry)))) (spec.transformAnswer repeater copy))
+        (writtenNumber r) (writtenCount r) (now (matrix .entry)) (now (matrix .exit)) ⌝ }
 {
     match verdict_of(repeater) {
         Verdict::Fault(refusal) => Written::Refused(refusal),

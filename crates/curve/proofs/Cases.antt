@@ -4,7 +4,7 @@ use Prim.Native.Nat.{ℕ}
 use lib.Ieee.{Float, binary32, add, sub, mul, div, sum, neg, round, units, size, span, climb, odd, ofInt, ofBits, ofFields}
 use Rattle.ieee.specs.Fused.{fma}
 use Rattle.ieee.specs.Root.{hypotOf, rootOf, isqrt, root}
-use Rattle.curve.specs.declared.Point.{Point}
+use Rattle.point.specs.declared.Point.{Point}
 use Rattle.curve.specs.Curve.{distance, quadAt, evalQuad, cubicAt, evalCubic, stepOf, quadPoint, cubicPoint, chords, quadLengthAfter, cubicLengthAfter, quadLength, cubicLength}
 
 -- an f32 and a point by bit patterns

@@ -6,7 +6,7 @@ use native.Mathlib.Omega.{arith}
 use lib.IntN.{pos}
 use lib.Ieee.{Float, div, ofInt, ofBits, round, binary32}
 use Rattle.ieee.specs.Literal.{zero32}
-use Rattle.curve.specs.declared.Point.{Point}
+use Rattle.point.specs.declared.Point.{Point}
 use Rattle.ieee.specs.Operators.{_⊕_}
 use Rattle.curve.specs.Curve.{distance, evalQuad, evalCubic, stepOf, quadPoint, cubicPoint, chords, quadLengthAfter, cubicLengthAfter, quadLength, cubicLength}
 

@@ -16,7 +16,7 @@ use Rattle.ieee.proofs.Tests.{allUpTo, up-to}
 use Rattle.ieee.proofs.Grid.{on→On}
 use Rattle.ieee.proofs.Twins.{finer, zero-twin, twin-add-absorb, twin-sub, twin-mul-right, twin-fma}
 use Rattle.ieee.proofs.Hypot.{twin-hypot}
-use Rattle.curve.specs.declared.Point.{Point}
+use Rattle.point.specs.declared.Point.{Point}
 use Rattle.curve.specs.Curve.{two32, three32, squared, cubed, distance, quadAt, evalQuad, cubicAt, evalCubic, stepOf, quadPoint, cubicPoint, chords, quadLengthAfter, cubicLengthAfter}
 
 -- p' is p with both coordinates times 2 ^ k, and those of p are on the grid

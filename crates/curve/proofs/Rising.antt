@@ -19,7 +19,7 @@ use Rattle.ieee.specs.Fused.{fma}
 use Rattle.ieee.proofs.Order as Order
 use Rattle.ieee.proofs.Monotone.{add-ge, div-le}
 use Rattle.ieee.proofs.Bounds.{Reach, reach-pow, reach-whole, reach-absorb, zero-bounded, bounded-finite, bounded-number, bounded-between, bounded-weaken, add-bounded, sub-bounded, mul-bounded, fma-bounded, hypot-bounded, hypot-plus}
-use Rattle.curve.specs.declared.Point.{Point}
+use Rattle.point.specs.declared.Point.{Point}
 use Rattle.curve.specs.Curve.{two32, three32, squared, cubed, distance, quadAt, evalQuad, cubicAt, evalCubic, stepOf, quadPoint, cubicPoint, chords, quadLengthAfter, cubicLengthAfter}
 
 -- both coordinates are at most n

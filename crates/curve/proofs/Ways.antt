@@ -9,7 +9,7 @@ use borrow.Author.Count.{falls}
 use Rattle.ieee.specs.Literal.{one32}
 use Rattle.ieee.specs.Fused.{fma}
 use Rattle.ieee.specs.Root.{hypotOf}
-use Rattle.curve.specs.declared.Point.{Point}
+use Rattle.point.specs.declared.Point.{Point}
 use Rattle.ieee.specs.Operators.{_⊖_, _⊗_}
 use Rattle.curve.specs.Curve.{two32, three32, squared, cubed, distance, quadAt, evalQuad, cubicAt, evalCubic}
 use Rattle.curve.proofs.Chords.{chordwise}

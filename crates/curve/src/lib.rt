@@ -1,13 +1,8 @@
 // The length of a curve by chords: `approx_quad_length` and `approx_cubic_length` of
 // drawing_paths.rs.
+use point::Point;
 ghost use mathlib.Core.Path.{_≡_};
 ghost use Rattle.curve.specs.Curve as spec;
-
-// A point of the plane.
-pub struct Point {
-    pub x: f32,
-    pub y: f32,
-}
 
 // How far one point is from another.
 pub fn distance(a: Point, b: Point) -> f32

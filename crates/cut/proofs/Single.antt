@@ -14,7 +14,8 @@ part-single : (total part : Float) → Single (partOf total part)
 unfolding partOf max
 part-single total part =
     let x = total ⊗ part in
-    cond-fits binary32 (lt zero32 x) x (cond (isNan zero32) x zero32) (mul-fits binary32 total part) (cond-fits binary32 (isNan zero32) x zero32 (mul-fits binary32 total part) zero-single)
+    let x-single = mul-fits binary32 total part in
+    cond-fits binary32 (lt zero32 x) x (cond (isNan zero32) x zero32) x-single (cond-fits binary32 (isNan zero32) x zero32 x-single zero-single)
 
 pub cuts-single : (total : Float) (ends : List Float) → AllSingle (cutAll total ends)
 cuts-single total [] = tt

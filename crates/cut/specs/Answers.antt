@@ -1,60 +1,49 @@
--- What each case of an answer is to the caller, and what a call promises of its result and of the caller's places. Definitions only.
-use Prim.Native.Nat.{ℕ}
+-- The answer to each call of a trim, the ranges with the numbers that are told of them, and what a call promises of the caller's places. Definitions only.
+use Prim.Native.Nat.{ℕ, _*_}
 use mathlib.Core.Path.{_≡_}
 use mathlib.Core.Bool.{cond}
-use mathlib.Core.List.{List, []}
+use mathlib.Core.List.{List}
 use lib.Ieee.{Float}
-use Rattle.command.specs.declared.Refusal.{Refusal}
-use Rattle.command.specs.Commands.{onto}
-use Rattle.command.specs.Refusals.{refusalNumber}
+use Rattle.command.specs.Outcomes.{Outcome, mapped, valueOr, Told}
+use Rattle.command.specs.Buffers.{Filled}
+use Rattle.trim.specs.declared.TrimStyle.{TrimStyle}
 use Rattle.trim.specs.declared.Ranges.{Ranges}
 use Rattle.trim.specs.Trim.{isFullTrimSegments}
 use Rattle.trim.specs.Ranges.{rangeCount, rangeEnds}
-use Rattle.cut.specs.declared.Shown.{Shown}
-use Rattle.cut.specs.declared.Shown.the-variants as shown
-use Rattle.cut.specs.declared.Trimmed.{Trimmed}
-use Rattle.cut.specs.declared.Trimmed.the-variants as trimmed
 use Rattle.cut.specs.Cuts.{cutAll}
-
--- a refusal, or some ranges with the numbers that are told of them
-pub data Answer : Type 0 where
-  refused : Refusal → Answer
-  answered : Ranges → List Float → Answer
+use Rattle.cut.specs.Calls.{trimRanges, trimLengths}
 
 -- of the ranges alone, their ends
-unfoldable pub rangesAnswer : Shown → Answer
-rangesAnswer (shown.Refused r) = refused r
-rangesAnswer (shown.Visible ranges) = answered ranges (rangeEnds ranges)
+abbrev pub withEnds : Ranges → Ranges × List Float
+withEnds ranges = (ranges, rangeEnds ranges)
+
+unfoldable pub rangesAnswer : TrimStyle → Outcome (Ranges × List Float)
+rangesAnswer trim = mapped withEnds (trimRanges trim)
 
 -- of a path, what lies before, in and after each range
-unfoldable pub lengthsAnswer : Trimmed → Answer
-lengthsAnswer (trimmed.Refused r) = refused r
-lengthsAnswer (trimmed.Cut total ranges) = answered ranges (cutAll total (rangeEnds ranges))
+abbrev pub withCuts : Float × Ranges → Ranges × List Float
+withCuts cut = (cut .1, cutAll (cut .0) (rangeEnds (cut .1)))
+
+unfoldable pub lengthsAnswer : TrimStyle → List ℕ → List Float → Outcome (Ranges × List Float)
+lengthsAnswer trim codes numbers = mapped withCuts (trimLengths trim codes numbers)
 
 -- the mark of a whole path as a number
 abbrev pub markOf : Ranges → ℕ
 markOf ranges = cond (isFullTrimSegments ranges) 1 0
 
--- The number, 0 for an answer; how many ranges there are, 0 for a refusal; the numbers that are written; and what then stands in the caller's place for the mark.
-abbrev pub answerNumber : Answer → ℕ
-answerNumber (refused r) = refusalNumber r
-answerNumber (answered ranges numbers) = 0
+-- what is told of an answer: its numbers, how many ranges there are, and the mark
+abbrev pub toldNumbers : Ranges × List Float → List Float
+toldNumbers answer = answer .1
 
-abbrev pub answerCount : Answer → ℕ
-answerCount (refused r) = 0
-answerCount (answered ranges numbers) = rangeCount ranges
+abbrev pub toldCount : Ranges × List Float → ℕ
+toldCount answer = rangeCount (answer .0)
 
-abbrev pub answerNumbers : Answer → List Float
-answerNumbers (refused r) = []
-answerNumbers (answered ranges numbers) = numbers
+abbrev pub toldMark : Ranges × List Float → ℕ
+toldMark answer = markOf (answer .0)
 
-abbrev pub answerMark : Answer → ℕ → ℕ
-answerMark (refused r) before = before
-answerMark (answered ranges numbers) before = markOf ranges
-
--- The promise: number, count, mark and the beginning of the buffer are the answer's; places past it keep their content, and a refusal alters no place but the count.
-pub record Placed (a : Answer) (number count : ℕ) (buffer buffer' : List Float) (mark mark' : ℕ) : Type 0 where
-  pub number-is : number ≡ answerNumber a
-  pub count-is : count ≡ answerCount a
-  pub numbers-are : buffer' ≡ onto (answerNumbers a) buffer
-  pub mark-is : mark' ≡ answerMark a mark
+-- The promise of both calls, where each range has `width` numbers, two ends or three lengths: the array is filled with the numbers,
+-- the count told is that of the ranges, and so is the mark.
+pub record Placed (width : ℕ) (o : Outcome (Ranges × List Float)) (number count : ℕ) (buffer buffer' : List Float) (mark mark' : ℕ) : Type 0 where
+  pub numbers-filled : Filled (mapped toldNumbers o) number (width * count) buffer buffer'
+  pub count-is : count ≡ valueOr 0 (mapped toldCount o)
+  pub mark-told : Told (mapped toldMark o) number mark mark'

@@ -1,16 +1,16 @@
 -- What the two calls of a trim answer, whatever they are given. Definitions only.
 use Prim.Native.Nat.{ℕ}
-use mathlib.Core.Bool.{Bool, cond, _&&_, _||_}
-use mathlib.Core.List.{List}
+use mathlib.Core.Bool.{Bool, not, _&&_, _||_}
+use mathlib.Core.List.{List, [], _∷_}
 use lib.Dec.{eqb}
 use lib.Ieee.{Float, le}
 use lib.Ieee.Scale.{finite}
 use Rattle.ieee.specs.Literal.{epsilon32}
 use Rattle.command.specs.declared.Refusal.the-variants.{OutOfRange, Unlisted, TooShort}
-use Rattle.length.specs.declared.Measured.{Measured}
-use Rattle.length.specs.declared.Measured.the-variants as measured
+use Rattle.command.specs.Outcomes.{Outcome, refused, accepted, andThen, Check, _gives_, checked}
 use Rattle.length.specs.Lists.{measureList}
 use Rattle.trim.specs.declared.TrimStyle.{TrimStyle}
+use Rattle.trim.specs.declared.Ranges.{Ranges}
 use Rattle.trim.specs.Trim.{normalizedTrimSegments}
 use Rattle.cut.specs.declared.Shown.{Shown}
 use Rattle.cut.specs.declared.Shown.the-variants as shown
@@ -22,8 +22,8 @@ unfoldable pub isFiniteTrim : TrimStyle → Bool
 isFiniteTrim trim = finite (trim .start) && (finite (trim .end) && finite (trim .«offset_degrees»))
 
 -- the ranges alone read no mode
-unfoldable pub trimRanges : TrimStyle → Shown
-trimRanges trim = cond (isFiniteTrim trim) (shown.Visible (normalizedTrimSegments trim)) (shown.Refused OutOfRange)
+unfoldable pub trimRanges : TrimStyle → Outcome Ranges
+trimRanges trim = checked ((not (isFiniteTrim trim) gives OutOfRange) ∷ []) (accepted (normalizedTrimSegments trim))
 
 -- the modes 1 and 2 are listed
 unfoldable pub isTrimMode : ℕ → Bool
@@ -33,14 +33,22 @@ isTrimMode mode = eqb mode 1 || eqb mode 2
 abbrev pub shortest : Float
 shortest = epsilon32
 
--- the list is measured, then its length is looked at
-unfoldable pub trimMeasured : TrimStyle → Measured → Trimmed
-trimMeasured trim (measured.Refused r) = trimmed.Refused r
-trimMeasured trim (measured.Length x) = cond (le x shortest) (trimmed.Refused TooShort) (trimmed.Cut x (normalizedTrimSegments trim))
+-- a path of this length, with the ranges of its trim: 8 where it is too short
+unfoldable pub cutMeasured : TrimStyle → Float → Outcome (Float × Ranges)
+cutMeasured trim x = checked ((le x shortest gives TooShort) ∷ []) (accepted (x, normalizedTrimSegments trim))
 
 -- the trim's numbers (3) and mode (4) come before the command list, then 8
-unfoldable pub trimLengths : TrimStyle → List ℕ → List Float → Trimmed
-trimLengths trim codes numbers =
-    cond (isFiniteTrim trim)
-    (cond (isTrimMode (trim .mode)) (trimMeasured trim (measureList codes numbers)) (trimmed.Refused Unlisted))
-    (trimmed.Refused OutOfRange)
+abbrev pub trimChecks : TrimStyle → List Check
+trimChecks trim = (not (isFiniteTrim trim) gives OutOfRange) ∷ (not (isTrimMode (trim .mode)) gives Unlisted) ∷ []
+
+unfoldable pub trimLengths : TrimStyle → List ℕ → List Float → Outcome (Float × Ranges)
+trimLengths trim codes numbers = checked (trimChecks trim) (andThen (measureList codes numbers) (cutMeasured trim))
+
+-- the outcomes that a `Shown` and a `Trimmed` are
+abbrev pub shownOf : Shown → Outcome Ranges
+shownOf (shown.Refused r) = refused r
+shownOf (shown.Visible ranges) = accepted ranges
+
+abbrev pub trimmedOf : Trimmed → Outcome (Float × Ranges)
+trimmedOf (trimmed.Refused r) = refused r
+trimmedOf (trimmed.Cut total ranges) = accepted (total, ranges)

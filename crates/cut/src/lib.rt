@@ -7,10 +7,12 @@ ghost use mathlib.Core.Path.{_≡_};
 ghost use Prim.Native.Nat.{_+_, _≤_};
 ghost use lib.ListN.{length};
 ghost use lib.Seq.{sets};
-ghost use Rattle.command.specs.Commands.{onto};
+ghost use Rattle.command.specs.Outcomes.{andThen};
+ghost use Rattle.command.specs.Buffers.{onto};
+ghost use Rattle.length.specs.Lists.{measuredOf};
 ghost use Rattle.trim.specs.Ranges.{rangeEnds};
 ghost use Rattle.cut.specs.Cuts.{partOf, cutsOf, cutNumbers, cutAll};
-ghost use Rattle.cut.specs.Calls.{isFiniteTrim, isTrimMode, trimRanges, trimMeasured, trimLengths};
+ghost use Rattle.cut.specs.Calls.{isFiniteTrim, isTrimMode, trimRanges, cutMeasured, trimLengths, shownOf, trimmedOf};
 ghost use Rattle.cut.specs.Answers.{markOf};
 
 // f32::EPSILON, 2^-23.
@@ -57,7 +59,7 @@ fn is_trim_mode(mode: u8) -> bool
 
 // The visible ranges of a trim.
 pub fn trim_ranges(trim: TrimStyle) -> Shown
-    ensures { λ r. ⌜ r ≡ trimRanges trim ⌝ }
+    ensures { λ r. ⌜ shownOf r ≡ trimRanges trim ⌝ }
 {
     if is_finite_trim(trim) {
         Shown::Visible(trim::normalized_trim_segments(trim))
@@ -68,7 +70,7 @@ pub fn trim_ranges(trim: TrimStyle) -> Shown
 
 // A trim of a path that has been measured.
 fn trim_measured(trim: TrimStyle, measured: Measured) -> Trimmed
-    ensures { λ r. ⌜ r ≡ trimMeasured trim measured ⌝ }
+    ensures { λ r. ⌜ trimmedOf r ≡ andThen (measuredOf measured) (cutMeasured trim) ⌝ }
 {
     match measured {
         Measured::Refused(refusal) => Trimmed::Refused(refusal),
@@ -84,7 +86,7 @@ fn trim_measured(trim: TrimStyle, measured: Measured) -> Trimmed
 
 // A trim of a lent command list.
 pub fn trim_lengths(trim: TrimStyle, codes: &[u8], numbers: &[f32]) -> Trimmed
-    ensures { λ r. ⌜ r ≡ trimLengths trim (now (codes .entry)) (now (numbers .entry)) ⌝ }
+    ensures { λ r. ⌜ trimmedOf r ≡ trimLengths trim (now (codes .entry)) (now (numbers .entry)) ⌝ }
 {
     if is_finite_trim(trim) {
         if is_trim_mode(trim.mode) {

@@ -1,25 +1,26 @@
 -- What drawing a row reads of the item list: the numbers of that row and no others. Assumes nothing.
-use mathlib.Core.Path.{_≡_, refl, sym, ap, ap₂, _∙_}
+use mathlib.Core.Path.{_≡_, refl, sym, ap, ap₂, subst, _∙_}
 use mathlib.Core.Bool.{Bool, true, false, cond}
 use mathlib.Core.List.{List, _∷_}
 use Prim.Native.Nat.{ℕ, zero, suc, _+_, _*_, _≤_, _<_}
 use native.Mathlib.Omega.{arith}
-use lib.Dec.{eqb, ltb, lit<}
+use lib.Dec.{eqb, lit<}
 use lib.Ieee.{Float, nan}
-use lib.ListN.{length, getD, take, drop, length-drop}
-use lib.Seq.{getD-take, getD-drop, length-take-le, ext-getD}
-use borrow.Author.Tests.{ltb-false}
-use Rattle.ieee.specs.Limit.{allWithin}
-use Rattle.command.specs.declared.Refusal.the-variants.{Empty, TooMany, OutOfRange, Unsupported, OutOfBounds}
-use Rattle.command.specs.Outcomes.{refused, drawn}
+use lib.ListN.{length, getD, take, drop, length-drop, length-take}
+use lib.Seq.{getD-take, getD-drop, ext-getD}
+use Rattle.command.specs.declared.PathCommand.{PathCommand}
+use Rattle.command.specs.declared.Refusal.the-variants.{Unsupported}
+use Rattle.command.specs.Outcomes.{Outcome, refused, accepted, mapped, Check, checked}
+use Rattle.command.proofs.Outcomes.{checks-relate}
 use Rattle.path.specs.Path.{vertexAt, verticesOf, bezierPath, pathCommands}
-use Rattle.rect.specs.Rect.{rectCorners}
+use Rattle.rect.specs.Rect.{cornerRadius}
+use Rattle.shape.specs.declared.Shape.{Shape}
 use Rattle.shape.specs.declared.Shape.the-variants.{Path, Rect}
 use Rattle.shape.specs.Shape.{shapeCommands}
 use Rattle.item.specs.declared.ItemRow.{ItemRow}
-use Rattle.item.specs.Rows.{isPath}
-use Rattle.draw.specs.Checks.{coordinateLimit}
-use Rattle.draw.specs.Items.{hasNoVertices, entriesOf, itemShape, drawSource}
+use Rattle.item.specs.Rows.{isPath, isRect, entriesOf}
+use Rattle.draw.specs.Items.{itemShape, sourceChecks, shapeDrawn, drawSource}
+use Rattle.draw.proofs.Sources.{source-passed}
 
 vertices-read : (n : ℕ) (v v' : List Float) → ((i : ℕ) → i < 6 * n → getD v' i nan ≡ getD v i nan) → verticesOf n v' ≡ verticesOf n v
 unfolding verticesOf
@@ -32,43 +33,53 @@ vertices-read (suc n) v v' same = ap₂ _∷_ first (vertices-read n (drop 6 v) 
     rest : (i : ℕ) → i < 6 * n → getD (drop 6 v') i nan ≡ getD (drop 6 v) i nan
     rest i h = rw (getD-drop 6 v i nan, getD-drop 6 v' i nan) (same (6 + i) (omega arith))
 
-shape-read : (row : ItemRow) (v v' : List Float) → ((i : ℕ) → i < entriesOf row → getD v' i nan ≡ getD v i nan) → shapeCommands (itemShape row v') v' ≡ shapeCommands (itemShape row v) v
-unfolding itemShape shapeCommands pathCommands
-shape-read row v v' same = go (isPath row) same
+-- a shape whose numbers stand at the start of v, kind by kind
+shape-read : (row : ItemRow) (v v' : List Float) → ((i : ℕ) → i < entriesOf row → getD v' i nan ≡ getD v i nan) → shapeDrawn row v' ≡ shapeDrawn row v
+unfolding shapeDrawn itemShape shapeCommands pathCommands entriesOf
+shape-read row v v' same = go (isPath row) (isRect row) same
   where
-    go : (b : Bool) → ((i : ℕ) → i < cond b (6 * row .count) 5 → getD v' i nan ≡ getD v i nan)
-        → shapeCommands (cond b (Path (row .mark) (row .count)) (Rect (rectCorners (getD v' 0 nan) (getD v' 1 nan) (getD v' 2 nan) (getD v' 3 nan) (getD v' 4 nan)))) v'
-        ≡ shapeCommands (cond b (Path (row .mark) (row .count)) (Rect (rectCorners (getD v 0 nan) (getD v 1 nan) (getD v 2 nan) (getD v 3 nan) (getD v 4 nan)))) v
-    go true at = ap (bezierPath (eqb (row .mark) 1)) (vertices-read (row .count) v v' at)
-    go false at = rw (at 0 (lit< tt), at 1 (lit< tt), at 2 (lit< tt), at 3 (lit< tt), at 4 (lit< tt))
+    go : (a b : Bool) → ((i : ℕ) → i < cond a (6 * row .count) (cond b 5 0) → getD v' i nan ≡ getD v i nan)
+        → mapped (λ (s : Shape). shapeCommands s v')
+        (cond a (accepted (Path (row .mark) (row .count))) (cond b (accepted (Rect (cornerRadius (getD v' 2 nan) (getD v' 3 nan) (getD v' 4 nan)))) (refused Unsupported)))
+        ≡ mapped (λ (s : Shape). shapeCommands s v)
+        (cond a (accepted (Path (row .mark) (row .count))) (cond b (accepted (Rect (cornerRadius (getD v 2 nan) (getD v 3 nan) (getD v 4 nan)))) (refused Unsupported)))
+    go true b at = ap (λ (vs : List _). accepted (bezierPath (eqb (row .mark) 1) vs)) (vertices-read (row .count) v v' at)
+    go false true at = rw (at 0 (lit< tt), at 1 (lit< tt), at 2 (lit< tt), at 3 (lit< tt), at 4 (lit< tt))
+    go false false at = refl
 
-take-read : (n : ℕ) (v v' : List Float) → n ≤ length v → n ≤ length v' → ((i : ℕ) → i < n → getD v' i nan ≡ getD v i nan) → take n v' ≡ take n v
-take-read n v v' h h' same =
-    ext-getD nan (take n v') (take n v) (length-take-le n v' h' ∙ sym (length-take-le n v h))
-    (λ i l. let l' : i < n = omega (arith, length-take-le n v' h') in rw (getD-take n v' i nan, getD-take n v i nan) (same i l'))
+take-read : (n : ℕ) (v v' : List Float) → length v' ≡ length v → ((i : ℕ) → i < n → i < length v → getD v' i nan ≡ getD v i nan) → take n v' ≡ take n v
+take-read n v v' long same =
+    ext-getD nan (take n v') (take n v) (length-take n v' ∙ rw long (sym (length-take n v)))
+    (λ i l.
+    let inside : i < n = omega (arith, length-take n v') in
+    let there : i < length v = omega (arith, length-take n v') in
+    rw (getD-take n v' i nan, getD-take n v i nan) (same i inside there))
 
-pub source-read : (row : ItemRow) (items items' : List Float) → length items' ≡ length items
-    → ((j : ℕ) → row .place ≤ j → j < row .place + entriesOf row → j < length items → getD items' j nan ≡ getD items j nan)
-    → drawSource row items' ≡ drawSource row items
-unfolding drawSource
-source-read row items items' long same = rw long (go (ltb (length items) (row .place + n)) refl)
-  where
-    n : ℕ
-    n = entriesOf row
+module _ (row : ItemRow) (items items' : List Float) (long : length items' ≡ length items)
+    (same : (j : ℕ) → row .place ≤ j → j < row .place + entriesOf row → j < length items → getD items' j nan ≡ getD items j nan) where
+  abbrev v : List Float
+  v = drop (row .place) items
 
-    v : List Float
-    v = drop (row .place) items
+  abbrev v' : List Float
+  v' = drop (row .place) items'
 
-    v' : List Float
-    v' = drop (row .place) items'
+  long-dropped : length v' ≡ length v
+  long-dropped = rw (length-drop (row .place) items, length-drop (row .place) items', long)
 
-    go : (b : Bool) → ltb (length items) (row .place + n) ≡ b
-        → cond (ltb 2 (row .kind)) (refused Unsupported) (cond (hasNoVertices row) (refused Empty) (cond (ltb 1024 (row .count)) (refused TooMany) (cond b (refused OutOfBounds) (cond (allWithin coordinateLimit (take n v')) (drawn (shapeCommands (itemShape row v') v')) (refused OutOfRange)))))
-        ≡ cond (ltb 2 (row .kind)) (refused Unsupported) (cond (hasNoVertices row) (refused Empty) (cond (ltb 1024 (row .count)) (refused TooMany) (cond b (refused OutOfBounds) (cond (allWithin coordinateLimit (take n v)) (drawn (shapeCommands (itemShape row v) v)) (refused OutOfRange)))))
-    go true e = refl
-    go false e =
-        let inside = ltb-false (length items) (row .place + n) e in
-        let at : (i : ℕ) → i < n → getD v' i nan ≡ getD v i nan = λ i h. rw (getD-drop (row .place) items i nan, getD-drop (row .place) items' i nan) (same (row .place + i) (omega arith) (omega arith) (omega arith)) in
-        let l : n ≤ length v = omega (arith, length-drop (row .place) items) in
-        let l' : n ≤ length v' = omega (arith, length-drop (row .place) items') in
-        rw (take-read n v v' l l' at, shape-read row v v' at)
+  same-dropped : (i : ℕ) → i < entriesOf row → i < length v → getD v' i nan ≡ getD v i nan
+  same-dropped i h l =
+      let inside : row .place + i < length items = omega (arith, length-drop (row .place) items) in
+      rw (getD-drop (row .place) items i nan, getD-drop (row .place) items' i nan) (same (row .place + i) (omega arith) (omega arith) inside)
+
+  checks-read : sourceChecks row items' ≡ sourceChecks row items
+  unfolding sourceChecks
+  checks-read = rw (long, take-read (entriesOf row) v v' long-dropped same-dropped)
+
+  pub source-read : drawSource row items' ≡ drawSource row items
+  unfolding drawSource
+  source-read =
+      ap (λ (cs : List Check). checked cs (shapeDrawn row v')) checks-read
+      ∙ checks-relate (λ (o o' : Outcome (List PathCommand)). o' ≡ o) (λ r. refl) (sourceChecks row items) (shapeDrawn row v) (shapeDrawn row v')
+      (λ pass.
+      let inside = source-passed row items pass .inside in
+      shape-read row v v' (λ i h. same-dropped i h (omega (arith, length-drop (row .place) items))))

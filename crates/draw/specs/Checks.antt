@@ -4,7 +4,8 @@ use mathlib.Core.List.{List}
 use lib.Ieee.{Float}
 use lib.ListN.{length, drop}
 use Rattle.ieee.specs.Literal.{numberLimit}
-use Rattle.command.specs.Outcomes.{Outcome, refused, drawn}
+use Rattle.command.specs.declared.PathCommand.{PathCommand}
+use Rattle.command.specs.Outcomes.{Outcome, refused, accepted}
 use Rattle.shape.specs.Shape.{shapeCommands, Fit}
 use Rattle.draw.specs.declared.Checked.{Checked}
 use Rattle.draw.specs.declared.Checked.the-variants.{Fault, Sound}
@@ -13,10 +14,10 @@ use Rattle.draw.specs.declared.Checked.the-variants.{Fault, Sound}
 abbrev pub coordinateLimit : Float
 coordinateLimit = numberLimit
 
--- what is found, as an outcome: the numbers of a sound shape start at its place of the list
-unfoldable pub outcomeOf : Checked → List Float → Outcome
+-- the outcome that a `Checked` is: the numbers of its shape start at its place of the list
+unfoldable pub outcomeOf : Checked → List Float → Outcome (List PathCommand)
 outcomeOf (Fault r) v = refused r
-outcomeOf (Sound place shape) v = drawn (shapeCommands shape (drop place v))
+outcomeOf (Sound place shape) v = accepted (shapeCommands shape (drop place v))
 
 -- what the checks leave to the writing
 abbrev pub Ready : Checked → List Float → Type 0

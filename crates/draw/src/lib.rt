@@ -1,15 +1,18 @@
 // The calls that draw a vertex list or one item row: the checks in document 01's order, then the writing.
-use command::Drawn;
+use command::Counts;
 use command::Refusal;
 use item::ItemRow;
 use shape::Shape;
 ghost use mathlib.Core.Path.{_≡_};
 ghost use Prim.Native.Nat.{_+_, _≤_};
 ghost use lib.ListN.{length, drop};
-ghost use Rattle.command.specs.Outcomes.{Filled, fitted, drawnNumber, drawnCodes, drawnNumbers};
+ghost use mathlib.Core.Bool.{false};
+ghost use Rattle.command.specs.Outcomes.{mapped, countsOf, countsNumber, firstCount, secondCount};
+ghost use Rattle.command.specs.Buffers.{inBuffers, fitted, FilledBoth, roomOf};
+ghost use Rattle.item.specs.Rows.{entriesOf};
 ghost use Rattle.draw.specs.Checks.{outcomeOf, Ready};
 ghost use Rattle.draw.specs.Paths.{drawPath};
-ghost use Rattle.draw.specs.Items.{isDrawable, hasNoVertices, entriesOf, itemShape, drawSource, drawItem};
+ghost use Rattle.draw.specs.Items.{isDrawable, isHeldBack, hasNoVertices, shapeDrawn, drawSource, drawItem};
 
 // What the checks find: the first refusal, or a shape and the place where its numbers start.
 pub enum Checked {
@@ -59,37 +62,34 @@ fn has_no_vertices(row: ItemRow) -> bool
     if row.kind == 1 { row.count == 0 } else { false }
 }
 
-// How many numbers a path or a rectangle has in the item list.
-fn entries_of(row: ItemRow) -> usize
-    requires { ⌜ row .count ≤ 1024 ⌝ }
-    ensures { λ r. ⌜ r ≡ entriesOf row ⌝ }
+// Whether a row is of a kind that is not drawn yet.
+fn is_held_back(row: ItemRow) -> bool
+    ensures { λ r. ⌜ r ≡ isHeldBack row ⌝ }
 {
-    if row.kind == 1 { 6 * row.count } else { 5 }
+    if row.kind == 1 { false } else { row.kind != 2 }
 }
 
-// What a path's or a rectangle's row says is to be drawn.
-pub fn shape_of(row: ItemRow, items: &[f32]) -> Shape
-    requires { ⌜ row .place + entriesOf row ≤ length (now items) ⌝ }
-    ensures { λ r. ⌜ r ≡ itemShape row (drop (row .place) (now (items .entry))) ⌝ }
+// What a row whose numbers are there and within the limit says is to be drawn, or why it cannot be.
+pub fn shape_of(row: ItemRow, items: &[f32]) -> Checked
+    requires { ⌜ (hasNoVertices row ≡ false) × (row .count ≤ 1024) × (row .place + entriesOf row ≤ length (now items)) ⌝ }
+    ensures { λ r. ⌜ (outcomeOf r (now (items .entry)) ≡ shapeDrawn row (drop (row .place) (now (items .entry)))) × Ready r (now (items .entry)) ⌝ }
 {
-    if row.kind == 1 {
-        return Shape::Path(row.mark, row.count);
-    }
     let i = row.place;
-    Shape::Rect(rect::rect_corners(
-        items[i],
-        items[i + 1],
-        items[i + 2],
-        items[i + 3],
-        items[i + 4],
-    ))
+    if row.kind == 1 {
+        return Checked::Sound(i, Shape::Path(row.mark, row.count));
+    }
+    if row.kind == 2 {
+        let radius = rect::corner_radius(items[i + 2], items[i + 3], items[i + 4]);
+        return Checked::Sound(i, Shape::Rect(radius));
+    }
+    Checked::Fault(Refusal::Unsupported)
 }
 
 // The checks of a row with listed entries, all but that of the buffers.
-pub fn check_source(row: ItemRow, items: &[f32]) -> Checked
+fn check_source(row: ItemRow, items: &[f32]) -> Checked
     ensures { λ r. ⌜ (outcomeOf r (now (items .entry)) ≡ drawSource row (now (items .entry))) × Ready r (now (items .entry)) ⌝ }
 {
-    if row.kind > 2 {
+    if is_held_back(row) {
         return Checked::Fault(Refusal::Unsupported);
     }
     if has_no_vertices(row) {
@@ -99,7 +99,7 @@ pub fn check_source(row: ItemRow, items: &[f32]) -> Checked
         return Checked::Fault(Refusal::TooMany);
     }
     let place = row.place;
-    let n = entries_of(row);
+    let n = item::entries_of(row);
     if items.len() < n {
         return Checked::Fault(Refusal::OutOfBounds);
     }
@@ -107,7 +107,7 @@ pub fn check_source(row: ItemRow, items: &[f32]) -> Checked
         return Checked::Fault(Refusal::OutOfBounds);
     }
     if float::all_within(&items[place..place + n], 1048576.0) {
-        Checked::Sound(place, shape_of(row, items))
+        shape_of(row, items)
     } else {
         Checked::Fault(Refusal::OutOfRange)
     }
@@ -128,16 +128,34 @@ fn check_item(row: &[u32], items: &[f32]) -> Checked
     }
 }
 
-// Writes what the checks let pass, if it fits the buffers.
-fn draw_checked(checked: Checked, list: &[f32], codes: &mut [u8], numbers: &mut [f32]) -> Drawn
+// What the checks let pass needs.
+fn checked_need(checked: Checked, list: &[f32]) -> Counts
     requires { ⌜ Ready checked (now list) ⌝ }
-    ensures { λ r. ⌜ Filled
-        (fitted (length (now (codes .entry))) (length (now (numbers .entry))) (outcomeOf checked (now (list .entry))))
-        (drawnNumber r) (drawnCodes r) (drawnNumbers r)
+    ensures { λ r. ⌜ countsOf r ≡ mapped roomOf (outcomeOf checked (now (list .entry))) ⌝ }
+{
+    match checked {
+        Checked::Fault(refusal) => Counts::Refused(refusal),
+        Checked::Sound(place, shape) => shape::need_of(shape, &list[place..]),
+    }
+}
+
+// What a row with listed entries needs: its codes and its numbers, or why it is refused.
+pub fn source_need(row: ItemRow, items: &[f32]) -> Counts
+    ensures { λ r. ⌜ countsOf r ≡ mapped roomOf (drawSource row (now (items .entry))) ⌝ }
+{
+    checked_need(check_source(row, items), items)
+}
+
+// Writes what the checks let pass, if it fits the buffers.
+fn draw_checked(checked: Checked, list: &[f32], codes: &mut [u8], numbers: &mut [f32]) -> Counts
+    requires { ⌜ Ready checked (now list) ⌝ }
+    ensures { λ r. ⌜ FilledBoth
+        (fitted (inBuffers (length (now (codes .entry))) (length (now (numbers .entry)))) (outcomeOf checked (now (list .entry))))
+        (countsNumber r) (firstCount r) (secondCount r)
         (now (codes .entry)) (now (codes .exit)) (now (numbers .entry)) (now (numbers .exit)) ⌝ }
 {
     match checked {
-        Checked::Fault(refusal) => Drawn::Refused(refusal),
+        Checked::Fault(refusal) => Counts::Refused(refusal),
         Checked::Sound(place, shape) => shape::draw_shape(shape, &list[place..], codes, numbers),
     }
 }
@@ -149,10 +167,10 @@ pub fn draw_path(
     count: usize,
     codes: &mut [u8],
     numbers: &mut [f32],
-) -> Drawn
-    ensures { λ r. ⌜ Filled
-        (fitted (length (now (codes .entry))) (length (now (numbers .entry))) (drawPath closed (now (vertices .entry)) count))
-        (drawnNumber r) (drawnCodes r) (drawnNumbers r)
+) -> Counts
+    ensures { λ r. ⌜ FilledBoth
+        (fitted (inBuffers (length (now (codes .entry))) (length (now (numbers .entry)))) (drawPath closed (now (vertices .entry)) count))
+        (countsNumber r) (firstCount r) (secondCount r)
         (now (codes .entry)) (now (codes .exit)) (now (numbers .entry)) (now (numbers .exit)) ⌝ }
 {
     draw_checked(
@@ -164,10 +182,10 @@ pub fn draw_path(
 }
 
 // Draws one item row into two buffers.
-pub fn draw_item(row: &[u32], items: &[f32], codes: &mut [u8], numbers: &mut [f32]) -> Drawn
-    ensures { λ r. ⌜ Filled
-        (fitted (length (now (codes .entry))) (length (now (numbers .entry))) (drawItem (now (row .entry)) (now (items .entry))))
-        (drawnNumber r) (drawnCodes r) (drawnNumbers r)
+pub fn draw_item(row: &[u32], items: &[f32], codes: &mut [u8], numbers: &mut [f32]) -> Counts
+    ensures { λ r. ⌜ FilledBoth
+        (fitted (inBuffers (length (now (codes .entry))) (length (now (numbers .entry)))) (drawItem (now (row .entry)) (now (items .entry))))
+        (countsNumber r) (firstCount r) (secondCount r)
         (now (codes .entry)) (now (codes .exit)) (now (numbers .entry)) (now (numbers .exit)) ⌝ }
 {
     draw_checked(check_item(row, items), items, codes, numbers)

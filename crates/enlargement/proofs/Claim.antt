@@ -10,6 +10,7 @@ use lib.ListN.{getD, length-map, List·getD-map}
 use Rattle.ieee.specs.Grid.{scale}
 use Rattle.command.specs.declared.PathCommand.{PathCommand}
 use Rattle.command.specs.Commands.{codesOf, numbersOf}
+use Rattle.command.specs.Outcomes.{Outcome, mapped}
 use Rattle.command.specs.Enlarged.{Twins, enlarged}
 use Rattle.command.proofs.Enlarged.{enlarged-codes, enlarged-numbers}
 use Rattle.item.specs.Rows.{itemRow}
@@ -18,10 +19,9 @@ use Rattle.merge.specs.Decision.{decision}
 use Rattle.judge.specs.Lists.{findCommand, commandFault, commandPart}
 use Rattle.judge.proofs.Enlarged.{found-twins, fault-twins, part-twins}
 use Rattle.length.specs.Lists.{measureList}
-use Rattle.length.specs.Enlarged.{enlargedMeasured}
 use Rattle.length.proofs.Enlarged.{measured-twins}
-use Rattle.cut.specs.Calls.{trimRanges, trimLengths}
-use Rattle.cut.specs.Answers.{Answer, rangesAnswer, lengthsAnswer}
+use Rattle.trim.specs.declared.Ranges.{Ranges}
+use Rattle.cut.specs.Answers.{rangesAnswer, lengthsAnswer}
 use Rattle.cut.specs.Enlarged.{CutsAlike}
 use Rattle.cut.proofs.Enlarged.{cuts-alike}
 use Rattle.repeater.specs.declared.RepeaterStyle.{RepeaterStyle}
@@ -82,7 +82,7 @@ module _ (k : ℕ) (K : k ≤ 6) (p p' : Plate) (G : PlateOnGrid p) (E : Enlarge
         (merge-alike k K (p .lent .rows) (p .lent .rowCount) (p .items) (p' .items)
         (multiplied-twins k K (OfMerge (p .lent .rows) (p .lent .rowCount)) (p .items) (p' .items) (G .rows) (E .rows)) .outcome);
     length-measured =
-        ap₂ measureList codes-enlarged numbers-enlarged ∙ measured-twins k 35 16 cs cs' (lit≤ tt) (omega arith) small lists ∙ ap (enlargedMeasured k) (sym (ap₂ measureList codes-first (G .numbers-are)));
+        ap₂ measureList codes-enlarged numbers-enlarged ∙ measured-twins k 35 16 cs cs' (lit≤ tt) (omega arith) small lists ∙ ap (mapped (scale k)) (sym (ap₂ measureList codes-first (G .numbers-are)));
     command-found =
         (λ i. findCommand (codes-enlarged i) (numbers-enlarged i) (E .lent i .command)) ∙ found-twins lists small (p .lent .command)
         ∙ sym (λ i. findCommand (codes-first i) (G .numbers-are i) (p .lent .command));
@@ -92,11 +92,12 @@ module _ (k : ℕ) (K : k ≤ 6) (p p' : Plate) (G : PlateOnGrid p) (E : Enlarge
     command-numbers =
         (λ i. commandPart (codes-enlarged i) (numbers-enlarged i) (E .lent i .command)) ∙ part-twins lists small (p .lent .command)
         ∙ sym (λ i. map (scale k) (commandPart (codes-first i) (G .numbers-are i) (p .lent .command)));
-    ranges = ap (λ (l : Lent). rangesAnswer (trimRanges (l .trim))) (E .lent);
+    ranges = ap (λ (l : Lent). rangesAnswer (l .trim)) (E .lent);
     cut-lengths =
-        subst (λ (a : Answer). CutsAlike k a (lengthsAnswer (trimLengths (p' .lent .trim) (p' .lent .codes) (p' .numbers)))) (sym (λ i. lengthsAnswer (trimLengths (p .lent .trim) (codes-first i) (G .numbers-are i))))
-        (subst (λ (a : Answer). CutsAlike k (lengthsAnswer (trimLengths (p .lent .trim) (codesOf cs) (numbersOf cs))) a)
-        (sym (λ i. lengthsAnswer (trimLengths (E .lent i .trim) (codes-enlarged i) (numbers-enlarged i))))
+        subst (λ (a : Outcome (Ranges × List Float)). CutsAlike k a (lengthsAnswer (p' .lent .trim) (p' .lent .codes) (p' .numbers)))
+        (sym (λ i. lengthsAnswer (p .lent .trim) (codes-first i) (G .numbers-are i)))
+        (subst (λ (a : Outcome (Ranges × List Float)). CutsAlike k (lengthsAnswer (p .lent .trim) (codesOf cs) (numbersOf cs)) a)
+        (sym (λ i. lengthsAnswer (E .lent i .trim) (codes-enlarged i) (numbers-enlarged i)))
         (cuts-alike (p .lent .trim) k 35 16 cs cs' (lit≤ tt) (omega arith) small lists));
     copy-order = order-same K (p .repeater) (p' .repeater) repeaters rotation-same mode-same;
     copy-transform = rw (E .lent) (copy-twins K (p .repeater) (p' .repeater) repeaters rotation-same (p .lent .copy));

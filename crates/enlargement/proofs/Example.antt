@@ -23,23 +23,22 @@ use Rattle.ieee.proofs.Grid.{on→On}
 use Rattle.command.specs.declared.PathCommand.{PathCommand}
 use Rattle.command.specs.declared.PathCommand.the-variants.{Move, Line, Close}
 use Rattle.command.specs.Commands.{codesOf, numbersOf}
-use Rattle.command.specs.Outcomes.{drawn}
+use Rattle.command.specs.Outcomes.{accepted, mapped, listOf}
 use Rattle.path.specs.Path.{bezierSegment}
 use Rattle.draw.specs.Paths.{drawPath}
-use Rattle.merge.specs.Decision.{joined, ruling, decision}
+use Rattle.merge.specs.Decision.{ruling, decision}
 use Rattle.curve.specs.Curve.{distance}
 use Rattle.measure.specs.Length as measure
+use Rattle.reader.specs.Read as reader
 use Rattle.judge.specs.Lists as judge
-use Rattle.length.specs.declared.Measured.the-variants.{Length}
-use Rattle.length.specs.Lists.{measuredOf, measureList}
+use Rattle.length.specs.Lists.{measureList}
 use Rattle.trim.specs.Trim.{offsetOf, placedAt, snapped, near, nearBoth, isWhole, rangesBetween, lower, upper, normalizedTrimSegments}
 use Rattle.cut.specs.Cuts.{partOf}
-use Rattle.cut.specs.Calls.{isFiniteTrim, isTrimMode, trimMeasured, trimLengths}
-use Rattle.cut.specs.Answers.{lengthsAnswer, answerNumbers}
+use Rattle.cut.specs.Calls.{isFiniteTrim, isTrimMode, cutMeasured, trimLengths}
+use Rattle.cut.specs.Answers.{lengthsAnswer, toldNumbers}
 use Rattle.repeater.specs.Matrix.{concat, preTranslate, preScale}
 use Rattle.repeater.specs.Repeater as repeater
-use Rattle.copies.specs.Answers.{answered}
-use Rattle.copies.specs.Calls.{hasTooMany, verdictOf, after, copyNumbers, allFinite, finiteAnswer, copyAnswer, transformAnswer}
+use Rattle.copies.specs.Calls.{hasTooMany, repeaterChecks, copyNumbers, allFinite, copyAnswer, transformAnswer}
 use Rattle.enlargement.specs.Plates.{Lent, Plate, OnGrid, GridAt, of-vertices, PlateOnGrid, enlarge}
 use Rattle.enlargement.specs.Claim.{AnsweredAlike}
 use Rattle.enlargement.specs.Buffers.{FilledAlike}
@@ -122,7 +121,7 @@ all-on-grid read v t i r h = go v t i h
     go (x ∷ xs) t zero h = on-grid x (and-l (fits binary32 x && on 10 13 x) (allOnGrid xs) t)
     go (x ∷ xs) t (suc i) h = go xs (and-r (fits binary32 x && on 10 13 x) (allOnGrid xs) t) i (le-of-suc-le-suc h)
 
-triangle-drawn : drawPath 1 triangle 3 ≡ drawn sides
+triangle-drawn : drawPath 1 triangle 3 ≡ accepted sides
 unfolding drawPath bezierSegment sub ofBits le
 triangle-drawn = refl
 
@@ -158,39 +157,55 @@ twelve = ofBits binary32 0x4140_0000
 abbrev sixteen : Float
 sixteen = ofBits binary32 0x4180_0000
 
-larger-drawn : drawPath 1 (larger .vertices) 3 ≡ drawn (Move zero32 zero32 ∷ Line twelve zero32 ∷ Line twelve sixteen ∷ Line zero32 zero32 ∷ Close ∷ [])
+larger-drawn : drawPath 1 (larger .vertices) 3 ≡ accepted (Move zero32 zero32 ∷ Line twelve zero32 ∷ Line twelve sixteen ∷ Line zero32 zero32 ∷ Close ∷ [])
 unfolding enlarge drawPath bezierSegment sub mul ofBits le
 larger-drawn = refl
 
 -- 12, and 48
-length-12 : measureList (lent .codes) (plate .numbers) ≡ Length twelve
-unfolding sub mul ofBits le hypotOf isqrt distance measure.startPen measure.moveTo measure.lineTo measure.close measure.step measure.steps measure.lengthAfter measure.pathLength judge.sizeOfCode judge.commandAt judge.before judge.readList judge.judgeList measuredOf measureList allWithin
+length-12 : measureList (lent .codes) (plate .numbers) ≡ accepted twelve
+unfolding sub mul ofBits le hypotOf isqrt allWithin
+    distance measure.startPen measure.moveTo measure.lineTo measure.close measure.step measure.steps measure.lengthAfter measure.pathLength
+    reader.sizeOfCode reader.commandAt reader.commandChecks reader.readCommand judge.before judge.readList judge.judgeList measureList
 length-12 = refl
 
-length-48 : measureList (lent .codes) (larger .numbers) ≡ Length (ofBits binary32 0x4240_0000)
-unfolding enlarge sub mul ofBits le hypotOf isqrt distance measure.startPen measure.moveTo measure.lineTo measure.close measure.step measure.steps measure.lengthAfter measure.pathLength judge.sizeOfCode judge.commandAt judge.before judge.readList judge.judgeList measuredOf measureList allWithin
+length-48 : measureList (lent .codes) (larger .numbers) ≡ accepted (ofBits binary32 0x4240_0000)
+unfolding enlarge sub mul ofBits le hypotOf isqrt allWithin
+    distance measure.startPen measure.moveTo measure.lineTo measure.close measure.step measure.steps measure.lengthAfter measure.pathLength
+    reader.sizeOfCode reader.commandAt reader.commandChecks reader.readCommand judge.before judge.readList judge.judgeList measureList
 length-48 = refl
 
 -- the middle half of it is shown: 3, 6, 3, and 12, 24, 12
-cuts-12 : answerNumbers (lengthsAnswer (trimLengths (lent .trim) (lent .codes) (plate .numbers))) ≡ three ∷ ofBits binary32 0x40c0_0000 ∷ three ∷ []
-unfolding sub mul div le ofInt ofBits min max clamp fma remEuclid hypotOf isqrt roundAway distance measure.startPen measure.moveTo measure.lineTo measure.close measure.step measure.steps measure.lengthAfter measure.pathLength judge.sizeOfCode judge.commandAt judge.before judge.readList judge.judgeList measuredOf measureList allWithin offsetOf placedAt snapped near nearBoth isWhole rangesBetween lower upper normalizedTrimSegments isFiniteTrim isTrimMode trimMeasured trimLengths lengthsAnswer partOf
+cuts-12 : listOf (mapped toldNumbers (lengthsAnswer (lent .trim) (lent .codes) (plate .numbers))) ≡ three ∷ ofBits binary32 0x40c0_0000 ∷ three ∷ []
+unfolding sub mul div le ofInt ofBits min max clamp fma remEuclid hypotOf isqrt roundAway allWithin
+    distance measure.startPen measure.moveTo measure.lineTo measure.close measure.step measure.steps measure.lengthAfter measure.pathLength
+    reader.sizeOfCode reader.commandAt reader.commandChecks reader.readCommand judge.before judge.readList judge.judgeList measureList
+    offsetOf placedAt snapped near nearBoth isWhole rangesBetween lower upper normalizedTrimSegments isFiniteTrim isTrimMode cutMeasured trimLengths lengthsAnswer partOf
 cuts-12 = refl
 
-cuts-48 : answerNumbers (lengthsAnswer (trimLengths (lent .trim) (lent .codes) (larger .numbers))) ≡ twelve ∷ ofBits binary32 0x41c0_0000 ∷ twelve ∷ []
-unfolding enlarge sub mul div le ofInt ofBits min max clamp fma remEuclid hypotOf isqrt roundAway distance measure.startPen measure.moveTo measure.lineTo measure.close measure.step measure.steps measure.lengthAfter measure.pathLength judge.sizeOfCode judge.commandAt judge.before judge.readList judge.judgeList measuredOf measureList allWithin offsetOf placedAt snapped near nearBoth isWhole rangesBetween lower upper normalizedTrimSegments isFiniteTrim isTrimMode trimMeasured trimLengths lengthsAnswer partOf
+cuts-48 : listOf (mapped toldNumbers (lengthsAnswer (lent .trim) (lent .codes) (larger .numbers))) ≡ twelve ∷ ofBits binary32 0x41c0_0000 ∷ twelve ∷ []
+unfolding enlarge sub mul div le ofInt ofBits min max clamp fma remEuclid hypotOf isqrt roundAway allWithin
+    distance measure.startPen measure.moveTo measure.lineTo measure.close measure.step measure.steps measure.lengthAfter measure.pathLength
+    reader.sizeOfCode reader.commandAt reader.commandChecks reader.readCommand judge.before judge.readList judge.judgeList measureList
+    offsetOf placedAt snapped near nearBoth isWhole rangesBetween lower upper normalizedTrimSegments isFiniteTrim isTrimMode cutMeasured trimLengths lengthsAnswer partOf
 cuts-48 = refl
 
-rows-joined : decision (lent .rows) (lent .rowCount) ≡ joined (0 ∷ 1 ∷ [])
+rows-joined : decision (lent .rows) (lent .rowCount) ≡ accepted (0 ∷ 1 ∷ [])
 unfolding decision ruling
 rows-joined = refl
 
 -- the last copy is shifted by 20, and by 80
-shift-20 : transformAnswer (plate .repeater) 2 ≡ answered (one32 ∷ zero32 ∷ zero32 ∷ one32 ∷ ofBits binary32 0x41a0_0000 ∷ zero32 ∷ zero32 ∷ [])
-unfolding ofBits allWithin lt le ofInt add sub mul div fma concat preTranslate preScale repeater.copyCount repeater.stepScale repeater.stepShift repeater.stepMatrix repeater.stepTransform repeater.steps repeater.iterationTransform repeater.copyTransform repeater.opacityOf repeater.copyOpacity hasTooMany verdictOf after copyNumbers allFinite finiteAnswer copyAnswer transformAnswer
+shift-20 : transformAnswer (plate .repeater) 2 ≡ accepted (one32 ∷ zero32 ∷ zero32 ∷ one32 ∷ ofBits binary32 0x41a0_0000 ∷ zero32 ∷ zero32 ∷ [])
+unfolding ofBits allWithin lt le ofInt add sub mul div fma concat preTranslate preScale
+    repeater.copyCount repeater.stepScale repeater.stepShift repeater.stepMatrix repeater.stepTransform repeater.steps
+    repeater.iterationTransform repeater.copyTransform repeater.opacityOf repeater.copyOpacity
+    hasTooMany repeaterChecks copyNumbers allFinite copyAnswer transformAnswer
 shift-20 = refl
 
-shift-80 : transformAnswer (larger .repeater) 2 ≡ answered (one32 ∷ zero32 ∷ zero32 ∷ one32 ∷ ofBits binary32 0x42a0_0000 ∷ zero32 ∷ zero32 ∷ [])
-unfolding enlarge ofBits allWithin lt le ofInt add sub mul div fma concat preTranslate preScale repeater.copyCount repeater.stepScale repeater.stepShift repeater.stepMatrix repeater.stepTransform repeater.steps repeater.iterationTransform repeater.copyTransform repeater.opacityOf repeater.copyOpacity hasTooMany verdictOf after copyNumbers allFinite finiteAnswer copyAnswer transformAnswer
+shift-80 : transformAnswer (larger .repeater) 2 ≡ accepted (one32 ∷ zero32 ∷ zero32 ∷ one32 ∷ ofBits binary32 0x42a0_0000 ∷ zero32 ∷ zero32 ∷ [])
+unfolding enlarge ofBits allWithin lt le ofInt add sub mul div fma concat preTranslate preScale
+    repeater.copyCount repeater.stepScale repeater.stepShift repeater.stepMatrix repeater.stepTransform repeater.steps
+    repeater.iterationTransform repeater.copyTransform repeater.opacityOf repeater.copyOpacity
+    hasTooMany repeaterChecks copyNumbers allFinite copyAnswer transformAnswer
 shift-80 = refl
 
 -- the factors are the f32 2, 4, 8, 16, 32 and 64

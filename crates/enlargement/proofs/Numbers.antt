@@ -3,55 +3,52 @@ use Prim.Native.Nat.{ℕ, zero, suc, _+_, _≤_, _<_}
 use native.Mathlib.Omega.{arith}
 use borrow.Author.Tests.{ltb-true}
 use mathlib.Core.Path.{_≡_, refl, sym, ap₂, subst, _∙_}
-use mathlib.Core.Bool.{true, false, Bool, cond}
+use mathlib.Core.Bool.{not}
 use mathlib.Core.List.{List, [], _∷_, map, _++_}
 use lib.Dec.{T, lit≤, ltb}
-use lib.Ieee.{Float, nan, binary32, le}
+use lib.Ieee.{Float, nan, binary32}
 use lib.ListN.{length, getD, length-map, List·getD-map, take, drop}
 use Rattle.ieee.specs.Grid.{scale, On, Twin}
+use Rattle.ieee.specs.Single.{Single, AllSingle}
 use Rattle.ieee.proofs.Grid.{mul-pow}
+use Rattle.ieee.proofs.Single.{single-append}
 use Rattle.command.specs.declared.PathCommand.{PathCommand}
+use Rattle.command.specs.declared.Refusal.{Refusal}
+use Rattle.command.specs.declared.Refusal.the-variants.{NoSuchCopy, NotFinite}
 use Rattle.command.specs.Commands.{codesOf, numbersOf}
-use Rattle.command.specs.Outcomes.{Outcome, drawn, commandsOf, refused}
-use Rattle.command.specs.Enlarged.{AllOn, Twins, OutcomeTwin, enlarged}
+use Rattle.command.specs.Outcomes.{Outcome, refused, accepted, mapped, listOf, _gives_, checked}
+use Rattle.command.specs.Enlarged.{AllOn, Twins, DrawingTwin, enlarged}
+use Rattle.command.proofs.Outcomes.{AllPass, checks-hold}
 use Rattle.command.proofs.Enlarged.{all-weaken, all-append}
-use Rattle.command.specs.declared.Refusal.the-variants.{TooMany, NoSuchCopy, NotFinite}
 use Rattle.item.specs.Rows.{itemRow}
 use Rattle.draw.specs.Paths.{drawPath}
 use Rattle.draw.specs.Items.{drawItem}
+use Rattle.draw.proofs.Sources.{held}
+use Rattle.draw.proofs.Single.{path-drawn-single, item-drawn-single}
 use Rattle.draw.proofs.Enlarged.{path-outcome, item-outcome}
 use Rattle.join.specs.Merge.{drawMerge}
-use Rattle.join.proofs.Enlarged.{merge-outcome}
-use Rattle.judge.specs.Lists.{commandPart, sizeOfCode, placeOf, judgeList, judgeCommand, partOf}
-use Rattle.judge.proofs.Enlarged.{judged-first}
-use Rattle.measure.specs.Length.{pathLength}
-use Rattle.measure.proofs.Enlarged.{length-twins}
-use Rattle.length.specs.Lists.{measureList, measuredOf}
-use Rattle.trim.specs.declared.TrimStyle.{TrimStyle}
-use Rattle.trim.specs.Trim.{normalizedTrimSegments}
-use Rattle.trim.specs.Ranges.{rangeEnds}
-use Rattle.cut.specs.Calls.{trimLengths, isFiniteTrim, isTrimMode, shortest}
-use Rattle.cut.specs.Answers.{lengthsAnswer, answerNumbers}
-use Rattle.cut.proofs.Enlarged.{cut-twins, answerOf, answer-is, finite-ends}
-use Rattle.cut.specs.Cuts.{cutAll}
-use Rattle.repeater.specs.declared.RepeaterStyle.{RepeaterStyle}
-use Rattle.repeater.proofs.Enlarged.{RepeaterTwin, copy-moved}
-use Rattle.repeater.specs.Repeater.{copyCount, copyTransform, copyOpacity}
-use Rattle.copies.specs.declared.Verdict.{Verdict}
-use Rattle.copies.specs.declared.Verdict.the-variants.{Fault, Sound}
-use Rattle.copies.specs.Answers as copies
-use Rattle.copies.specs.Answers.{answered}
-use Rattle.copies.specs.Calls.{verdictOf, after, copyNumbers, allFinite, finiteAnswer, copyAnswer, transformAnswer}
-use Rattle.copies.proofs.Ways.{offset-within, count-few}
-use Rattle.enlargement.specs.Plates.{Plate, OfVertices, OfRow, OfMerge, OnGrid, GridAt, Made, of-nothing, of-vertices, of-row, of-merge, PlateOnGrid, times, enlargedRepeater, MultipliedAt}
-use Rattle.enlargement.specs.Claim.{lengthNumbers, shiftNumbers, multipliedNumbers}
-use Rattle.ieee.specs.Single.{Single, AllSingle}
-use Rattle.ieee.proofs.Single.{single-append}
-use Rattle.draw.proofs.Single.{path-drawn-single, item-drawn-single}
 use Rattle.join.proofs.Single.{merge-drawn-single}
+use Rattle.join.proofs.Enlarged.{merge-outcome}
+use Rattle.reader.specs.Read.{sizeOfCode}
+use Rattle.judge.specs.Lists.{commandPart, placeOf, judgeList, judgeCommand}
+use Rattle.judge.proofs.Enlarged.{lengthCheck, judged-first}
+use Rattle.measure.specs.Length.{pathLength}
 use Rattle.measure.proofs.Single.{length-single}
+use Rattle.measure.proofs.Enlarged.{length-twins}
+use Rattle.length.specs.Lists.{measureList}
+use Rattle.trim.specs.declared.TrimStyle.{TrimStyle}
+use Rattle.cut.specs.Answers.{lengthsAnswer, toldNumbers}
 use Rattle.cut.proofs.Single.{cuts-single}
+use Rattle.cut.proofs.Enlarged.{trimEnds, cut-twins, cuts-numbers}
+use Rattle.repeater.specs.declared.RepeaterStyle.{RepeaterStyle}
+use Rattle.repeater.specs.Repeater.{copyCount, copyTransform, copyOpacity}
 use Rattle.repeater.proofs.Single.{copy-single}
+use Rattle.repeater.proofs.Enlarged.{RepeaterTwin, copy-moved}
+use Rattle.copies.specs.Calls.{repeaterChecks, copyNumbers, allFinite, copyAnswer, transformAnswer}
+use Rattle.copies.proofs.Ways.{offset-within, count-few}
+use Rattle.enlargement.specs.Plates.{Plate, OfVertices, OfRow, OfMerge, OnGrid, GridAt, Made, of-nothing, of-vertices, of-row, of-merge}
+use Rattle.enlargement.specs.Plates.{PlateOnGrid, times, enlargedRepeater, MultipliedAt}
+use Rattle.enlargement.specs.Claim.{lengthNumbers, shiftNumbers, multipliedNumbers}
 
 -- ---- numbers
 
@@ -79,13 +76,13 @@ scaled-twins k read v grid = record { long = length-map v (scale k); twins = λ 
 -- ---- drawings
 
 module _ (k : ℕ) (K : k ≤ 6) where
-  pub path-alike : (closed count : ℕ) (v v' : List Float) → TwinsAt k (OfVertices count) v v' → OutcomeTwin k 35 16 (drawPath closed v count) (drawPath closed v' count)
+  pub path-alike : (closed count : ℕ) (v v' : List Float) → TwinsAt k (OfVertices count) v v' → DrawingTwin k 35 16 (drawPath closed v count) (drawPath closed v' count)
   path-alike closed count v v' t = path-outcome k K closed count v v' (t .long) (t .twins)
 
-  pub row-alike : (row : List ℕ) (items items' : List Float) → TwinsAt k (OfRow (itemRow row 0)) items items' → OutcomeTwin k 35 16 (drawItem row items) (drawItem row items')
+  pub row-alike : (row : List ℕ) (items items' : List Float) → TwinsAt k (OfRow (itemRow row 0)) items items' → DrawingTwin k 35 16 (drawItem row items) (drawItem row items')
   row-alike row items items' t = item-outcome k K row items items' (t .long) (λ i h g. t .twins i (record { from = h; to = g }))
 
-  pub merge-alike : (rows : List ℕ) (n : ℕ) (items items' : List Float) → TwinsAt k (OfMerge rows n) items items' → OutcomeTwin k 35 16 (drawMerge rows n items) (drawMerge rows n items')
+  pub merge-alike : (rows : List ℕ) (n : ℕ) (items items' : List Float) → TwinsAt k (OfMerge rows n) items items' → DrawingTwin k 35 16 (drawMerge rows n items) (drawMerge rows n items')
   merge-alike rows n items items' t =
       merge-outcome k K rows n items items' (t .long) (λ row j i h g. t .twins i (record { row = row; is-joined = j; is-its = record { from = h; to = g } }))
 
@@ -122,75 +119,70 @@ products k q b (x ∷ xs) Q B X =
     ap₂ _∷_ (product k q b x Q B (X .single .0) (X .grid .0)) (products k q b xs Q B (record { single = X .single .1; grid = X .grid .1 }))
 
 -- ---- what is drawn
-pub path-small : (closed count : ℕ) (v : List Float) → GridAt (OfVertices count) v → Small 35 16 (numbersOf (commandsOf (drawPath closed v count)))
+pub path-small : (closed count : ℕ) (v : List Float) → GridAt (OfVertices count) v → Small 35 16 (numbersOf (listOf (drawPath closed v count)))
 path-small closed count v G = record {
   single = path-drawn-single closed count v (λ i h l. grid-single (G i h l));
   grid = path-alike 1 (lit≤ tt) closed count v (map (scale 1) v) (scaled-twins 1 (OfVertices count) v G) .grid;
 }
 
-pub row-small : (row : List ℕ) (items : List Float) → GridAt (OfRow (itemRow row 0)) items → Small 35 16 (numbersOf (commandsOf (drawItem row items)))
+pub row-small : (row : List ℕ) (items : List Float) → GridAt (OfRow (itemRow row 0)) items → Small 35 16 (numbersOf (listOf (drawItem row items)))
 row-small row items G = record {
   single = item-drawn-single row items (λ i h g l. grid-single (G i (record { from = h; to = g }) l));
   grid = row-alike 1 (lit≤ tt) row items (map (scale 1) items) (scaled-twins 1 (OfRow (itemRow row 0)) items G) .grid;
 }
 
-pub merge-small : (rows : List ℕ) (n : ℕ) (items : List Float) → GridAt (OfMerge rows n) items → Small 35 16 (numbersOf (commandsOf (drawMerge rows n items)))
+pub merge-small : (rows : List ℕ) (n : ℕ) (items : List Float) → GridAt (OfMerge rows n) items → Small 35 16 (numbersOf (listOf (drawMerge rows n items)))
 merge-small rows n items G = record {
   single = merge-drawn-single rows n items (λ row j i h g l. grid-single (G i (record { row = row; is-joined = j; is-its = record { from = h; to = g } }) l));
   grid = merge-alike 1 (lit≤ tt) rows n items (map (scale 1) items) (scaled-twins 1 (OfMerge rows n) items G) .grid;
 }
 
-drawn-small : (o : Outcome) (cs : List PathCommand) → Small 35 16 (numbersOf (commandsOf o)) → o ≡ drawn cs → Small 35 16 (numbersOf cs)
-drawn-small o cs X e = subst (λ (p : Outcome). Small 35 16 (numbersOf (commandsOf p))) e X
+accepted-small : (o : Outcome (List PathCommand)) (cs : List PathCommand) → Small 35 16 (numbersOf (listOf o)) → o ≡ accepted cs → Small 35 16 (numbersOf cs)
+accepted-small o cs X e = subst (λ (p : Outcome (List PathCommand)). Small 35 16 (numbersOf (listOf p))) e X
 
 pub made-small : (cs : List PathCommand) → Made cs → Small 35 16 (numbersOf cs)
 made-small cs of-nothing = none-small 35 16
-made-small cs (of-vertices closed count v ds G e) = drawn-small (drawPath closed v count) ds (path-small closed count v G) e
-made-small cs (of-row row items ds G e) = drawn-small (drawItem row items) ds (row-small row items G) e
-made-small cs (of-merge rows n items ds G e) = drawn-small (drawMerge rows n items) ds (merge-small rows n items G) e
+made-small cs (of-vertices closed count v ds G e) = accepted-small (drawPath closed v count) ds (path-small closed count v G) e
+made-small cs (of-row row items ds G e) = accepted-small (drawItem row items) ds (row-small row items G) e
+made-small cs (of-merge rows n items ds G e) = accepted-small (drawMerge rows n items) ds (merge-small rows n items G) e
 
 -- ---- what is asked of a command list
 module _ (cs : List PathCommand) (M : Small 35 16 (numbersOf cs)) where
   same : Twins 1 35 16 cs (map (enlarged 1) cs)
   same = record { commands = refl; grid = M .grid }
 
-  judged-is : judgeList (codesOf cs) (numbersOf cs) ≡ cond (ltb 262144 (length cs)) (refused TooMany) (drawn cs)
+  judged-is : judgeList (codesOf cs) (numbersOf cs) ≡ checked (lengthCheck (length cs)) (accepted cs)
   judged-is = judged-first same (lit≤ tt)
 
   length-on : On 91 71 (pathLength cs)
   length-on = length-twins 1 35 16 cs (map (enlarged 1) cs) (lit≤ tt) (lit≤ tt) same .grid
 
   pub length-small : Small 91 71 (lengthNumbers (measureList (codesOf cs) (numbersOf cs)))
-  unfolding measureList measuredOf
-  length-small = rw judged-is (go (ltb 262144 (length cs)))
-    where
-      go : (many : Bool) → Small 91 71 (lengthNumbers (measuredOf (cond many (refused TooMany) (drawn cs))))
-      go true = none-small 91 71
-      go false = record { single = (length-single cs, tt); grid = (length-on, tt) }
+  unfolding measureList
+  length-small =
+      rw judged-is
+      (checks-hold (λ (o : Outcome (List PathCommand)). Small 91 71 (lengthNumbers (mapped pathLength o))) (λ r. none-small 91 71) (lengthCheck (length cs)) (accepted cs)
+      (λ pass. record { single = (length-single cs, tt); grid = (length-on, tt) }))
 
   pub part-small : (j : ℕ) → Small 35 16 (commandPart (codesOf cs) (numbersOf cs) j)
-  unfolding commandPart partOf
+  unfolding commandPart
   part-small j = go (judgeCommand (codesOf cs) (numbersOf cs) j)
     where
-      go : (o : Outcome) → Small 35 16 (partOf o (take (sizeOfCode (getD (codesOf cs) j 3)) (drop (placeOf j (codesOf cs)) (numbersOf cs))))
-      go (refused r) = none-small 35 16
-      go (drawn ds) = small-take (sizeOfCode (getD (codesOf cs) j 3)) (drop (placeOf j (codesOf cs)) (numbersOf cs)) (small-drop (placeOf j (codesOf cs)) (numbersOf cs) M)
+      part : List Float
+      part = take (sizeOfCode (getD (codesOf cs) j 3)) (drop (placeOf j (codesOf cs)) (numbersOf cs))
 
-  pub cuts-small : (trim : TrimStyle) → Small 128 72 (answerNumbers (lengthsAnswer (trimLengths trim (codesOf cs) (numbersOf cs))))
-  cuts-small trim = rw (answer-is trim cs (ltb 262144 (length cs)) judged-is) (go (isFiniteTrim trim) refl (isTrimMode (trim .mode)) (ltb 262144 (length cs)) (le (pathLength cs) shortest))
-    where
-      go : (x : Bool) → isFiniteTrim trim ≡ x → (y z s : Bool)
-          → Small 128 72 (answerNumbers (answerOf (normalizedTrimSegments trim) x y z s (cutAll (pathLength cs) (rangeEnds (normalizedTrimSegments trim)))))
-      go false e y z s = none-small 128 72
-      go true e false z s = none-small 128 72
-      go true e true true s = none-small 128 72
-      go true e true false true = none-small 128 72
-      go true e true false false = record {
-        single = cuts-single (pathLength cs) (rangeEnds (normalizedTrimSegments trim));
+      go : (o : Outcome (List PathCommand)) → Small 35 16 (listOf (mapped (λ (ps : List PathCommand). part) o))
+      go (refused r) = none-small 35 16
+      go (accepted ds) = small-take (sizeOfCode (getD (codesOf cs) j 3)) (drop (placeOf j (codesOf cs)) (numbersOf cs)) (small-drop (placeOf j (codesOf cs)) (numbersOf cs) M)
+
+  pub cuts-small : (trim : TrimStyle) → Small 128 72 (listOf (mapped toldNumbers (lengthsAnswer trim (codesOf cs) (numbersOf cs))))
+  cuts-small trim =
+      cuts-numbers trim (Small 128 72) (none-small 128 72) cs (judged-first same (lit≤ tt)) (λ on. record {
+        single = cuts-single (pathLength cs) (trimEnds trim);
         grid =
-            cut-twins 1 91 71 (pathLength cs) (pathLength (map (enlarged 1) cs)) (lit≤ tt) (lit≤ tt) (length-twins 1 35 16 cs (map (enlarged 1) cs) (lit≤ tt) (lit≤ tt) same)
-            (rangeEnds (normalizedTrimSegments trim)) (finite-ends trim e) .grid;
-      }
+            cut-twins 1 91 71 (pathLength cs) (pathLength (map (enlarged 1) cs)) (lit≤ tt) (lit≤ tt)
+            (length-twins 1 35 16 cs (map (enlarged 1) cs) (lit≤ tt) (lit≤ tt) same) (trimEnds trim) on .grid;
+      })
 
 -- ---- a repeater
 pub repeater-twin : (k : ℕ) → k ≤ 6 → (p : Plate) → PlateOnGrid p → RepeaterTwin k (p .repeater) (enlargedRepeater k (p .repeater))
@@ -211,32 +203,32 @@ repeater-twin k K p G = record {
 }
 
 pub shift-small : (p : Plate) → PlateOnGrid p → (copy : ℕ) → Small 56 43 (shiftNumbers (transformAnswer (p .repeater) copy))
-unfolding transformAnswer copyAnswer
-shift-small p G copy = go (verdictOf (p .repeater)) refl
+unfolding transformAnswer copyAnswer copyNumbers
+shift-small p G copy =
+    checks-hold SmallShift none (repeaterChecks r) (copyAnswer r copy)
+    (λ pass.
+    checks-hold SmallShift none ((not (ltb copy (copyCount r)) gives NoSuchCopy) ∷ (not (allFinite numbers) gives NotFinite) ∷ []) (accepted numbers)
+    (λ found. shift pass (ltb-true copy (copyCount r) (held (ltb copy (copyCount r)) (found .0)))))
   where
     r : RepeaterStyle
     r = p .repeater
 
-    shift : verdictOf r ≡ Sound → copy < copyCount r → Small 56 43 (copyTransform r copy .e ∷ copyTransform r copy .f ∷ [])
-    shift s h =
-        let few = count-few r s in
+    numbers : List Float
+    numbers = copyNumbers (copyTransform r copy) (copyOpacity r copy)
+
+    SmallShift : Outcome (List Float) → Type 0
+    SmallShift o = Small 56 43 (shiftNumbers o)
+
+    none : (refusal : Refusal) → SmallShift (refused refusal)
+    none refusal = none-small 56 43
+
+    shift : AllPass (repeaterChecks r) → copy < copyCount r → Small 56 43 (copyTransform r copy .e ∷ copyTransform r copy .f ∷ [])
+    shift pass h =
+        let few = count-few r pass in
         let near : copy ≤ 4096 = omega arith in
-        let M = copy-moved 1 (lit≤ tt) r (enlargedRepeater 1 r) (repeater-twin 1 (lit≤ tt) p G) (offset-within r s) copy near in
+        let M = copy-moved 1 (lit≤ tt) r (enlargedRepeater 1 r) (repeater-twin 1 (lit≤ tt) p G) (offset-within r pass) copy near in
         let S = copy-single r copy in
         record { single = (S .0, (S .1, tt)); grid = (M .e-twin .grid, (M .f-twin .grid, tt)) }
-
-    told : (finite : Bool) → Small 56 43 (copyTransform r copy .e ∷ copyTransform r copy .f ∷ []) → Small 56 43 (shiftNumbers (cond finite (answered (copyNumbers (copyTransform r copy) (copyOpacity r copy))) (copies.refused NotFinite)))
-    told true X = unfold copyNumbers in X
-    told false X = none-small 56 43
-
-    there : verdictOf r ≡ Sound → (t : Bool) → ltb copy (copyCount r) ≡ t
-        → Small 56 43 (shiftNumbers (cond t (finiteAnswer (copyNumbers (copyTransform r copy) (copyOpacity r copy))) (copies.refused NoSuchCopy)))
-    there s true e = unfold finiteAnswer in (told (allFinite (copyNumbers (copyTransform r copy) (copyOpacity r copy))) (shift s (ltb-true copy (copyCount r) e)))
-    there s false e = none-small 56 43
-
-    go : (v : Verdict) → verdictOf r ≡ v → Small 56 43 (shiftNumbers (after v (cond (ltb copy (copyCount r)) (finiteAnswer (copyNumbers (copyTransform r copy) (copyOpacity r copy))) (copies.refused NoSuchCopy))))
-    go (Fault f) e = unfold after in (none-small 56 43)
-    go Sound e = unfold after in (there e (ltb copy (copyCount r)) refl)
 
 -- ---- all of them
 pub all-small : (p : Plate) → PlateOnGrid p → Small 128 72 (multipliedNumbers p)
@@ -246,7 +238,7 @@ all-small p G =
     (small-append (fine (merge-small (p .lent .rows) (p .lent .rowCount) (p .items) (G .rows)))
     (small-append (small-weaken 91 71 128 72 _ (lit≤ tt) (lit≤ tt) (at (λ codes numbers. Small 91 71 (lengthNumbers (measureList codes numbers))) (length-small cs M)))
     (small-append (fine (at (λ codes numbers. Small 35 16 (commandPart codes numbers (p .lent .command))) (part-small cs M (p .lent .command))))
-    (small-append (at (λ codes numbers. Small 128 72 (answerNumbers (lengthsAnswer (trimLengths (p .lent .trim) codes numbers)))) (cuts-small cs M (p .lent .trim)))
+    (small-append (at (λ codes numbers. Small 128 72 (listOf (mapped toldNumbers (lengthsAnswer (p .lent .trim) codes numbers)))) (cuts-small cs M (p .lent .trim)))
     (small-weaken 56 43 128 72 _ (lit≤ tt) (lit≤ tt) (shift-small p G (p .lent .copy))))))))
   where
     cs : List PathCommand

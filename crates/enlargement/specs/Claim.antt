@@ -22,58 +22,52 @@ use lib.Ieee.{Float}
 use lib.ListN.{take, drop}
 use Rattle.ieee.specs.Grid.{scale}
 use Rattle.command.specs.Commands.{numbersOf}
-use Rattle.command.specs.Outcomes.{commandsOf}
-use Rattle.command.specs.Enlarged.{enlargedOutcome}
+use Rattle.command.specs.Outcomes.{Outcome, mapped, listOf}
+use Rattle.command.specs.Enlarged.{enlargedDrawing}
 use Rattle.draw.specs.Paths.{drawPath}
 use Rattle.draw.specs.Items.{drawItem}
 use Rattle.estimate.specs.Estimate.{trayEstimate}
 use Rattle.merge.specs.Decision.{decision}
 use Rattle.join.specs.Merge.{drawMerge}
 use Rattle.judge.specs.Lists.{findCommand, commandFault, commandPart}
-use Rattle.length.specs.declared.Measured.{Measured}
-use Rattle.length.specs.declared.Measured.the-variants.{Refused, Length}
 use Rattle.length.specs.Lists.{measureList}
-use Rattle.length.specs.Enlarged.{enlargedMeasured}
-use Rattle.cut.specs.Calls.{trimRanges, trimLengths}
-use Rattle.cut.specs.Answers.{rangesAnswer, lengthsAnswer, answerNumbers}
+use Rattle.cut.specs.Answers.{rangesAnswer, lengthsAnswer, toldNumbers}
 use Rattle.cut.specs.Enlarged.{CutsAlike}
-use Rattle.copies.specs.Answers as copies
 use Rattle.copies.specs.Calls.{orderAnswer, transformAnswer}
 use Rattle.copies.specs.Enlarged.{movedAnswer}
 use Rattle.enlargement.specs.Plates.{Plate, PlateOnGrid, times, Enlarged}
 use Rattle.enlargement.specs.Buffers.{FilledAlike}
 
 -- ---- the numbers that enlarging multiplies: all coordinates, the length, the numbers of the command, the cut lengths, and the copy's e and f
-abbrev pub lengthNumbers : Measured → List Float
-lengthNumbers (Refused r) = []
-lengthNumbers (Length x) = x ∷ []
+abbrev pub lengthNumbers : Outcome Float → List Float
+lengthNumbers o = listOf (mapped (λ (x : Float). x ∷ []) o)
 
-abbrev pub shiftNumbers : copies.Answer Float → List Float
-shiftNumbers a = take 2 (drop 4 (copies.answerList a))
+abbrev pub shiftNumbers : Outcome (List Float) → List Float
+shiftNumbers o = take 2 (drop 4 (listOf o))
 
 abbrev pub multipliedNumbers : Plate → List Float
 multipliedNumbers p =
-    numbersOf (commandsOf (drawPath (p .lent .closed) (p .vertices) (p .lent .count)))
-    ++ (numbersOf (commandsOf (drawItem (p .lent .row) (p .items)))
-    ++ (numbersOf (commandsOf (drawMerge (p .lent .rows) (p .lent .rowCount) (p .items)))
+    numbersOf (listOf (drawPath (p .lent .closed) (p .vertices) (p .lent .count)))
+    ++ (numbersOf (listOf (drawItem (p .lent .row) (p .items)))
+    ++ (numbersOf (listOf (drawMerge (p .lent .rows) (p .lent .rowCount) (p .items)))
     ++ (lengthNumbers (measureList (p .lent .codes) (p .numbers))
     ++ (commandPart (p .lent .codes) (p .numbers) (p .lent .command)
-    ++ (answerNumbers (lengthsAnswer (trimLengths (p .lent .trim) (p .lent .codes) (p .numbers)))
+    ++ (listOf (mapped toldNumbers (lengthsAnswer (p .lent .trim) (p .lent .codes) (p .numbers)))
     ++ shiftNumbers (transformAnswer (p .repeater) (p .lent .copy)))))))
 
 -- ---- every call's answers about p and p', and that 'multiplied' is the f32 product
 pub record AnsweredAlike (k : ℕ) (p p' : Plate) : Type 0 where
-  pub path-drawn : drawPath (p' .lent .closed) (p' .vertices) (p' .lent .count) ≡ enlargedOutcome k (drawPath (p .lent .closed) (p .vertices) (p .lent .count))
-  pub item-drawn : drawItem (p' .lent .row) (p' .items) ≡ enlargedOutcome k (drawItem (p .lent .row) (p .items))
+  pub path-drawn : drawPath (p' .lent .closed) (p' .vertices) (p' .lent .count) ≡ enlargedDrawing k (drawPath (p .lent .closed) (p .vertices) (p .lent .count))
+  pub item-drawn : drawItem (p' .lent .row) (p' .items) ≡ enlargedDrawing k (drawItem (p .lent .row) (p .items))
   pub tray-estimate : trayEstimate (p' .lent .count) ≡ trayEstimate (p .lent .count)
   pub merge-decision : decision (p' .lent .rows) (p' .lent .rowCount) ≡ decision (p .lent .rows) (p .lent .rowCount)
-  pub merge-drawn : drawMerge (p' .lent .rows) (p' .lent .rowCount) (p' .items) ≡ enlargedOutcome k (drawMerge (p .lent .rows) (p .lent .rowCount) (p .items))
-  pub length-measured : measureList (p' .lent .codes) (p' .numbers) ≡ enlargedMeasured k (measureList (p .lent .codes) (p .numbers))
+  pub merge-drawn : drawMerge (p' .lent .rows) (p' .lent .rowCount) (p' .items) ≡ enlargedDrawing k (drawMerge (p .lent .rows) (p .lent .rowCount) (p .items))
+  pub length-measured : measureList (p' .lent .codes) (p' .numbers) ≡ mapped (scale k) (measureList (p .lent .codes) (p .numbers))
   pub command-found : findCommand (p' .lent .codes) (p' .numbers) (p' .lent .command) ≡ findCommand (p .lent .codes) (p .numbers) (p .lent .command)
   pub command-fault : commandFault (p' .lent .codes) (p' .numbers) (p' .lent .command) ≡ commandFault (p .lent .codes) (p .numbers) (p .lent .command)
   pub command-numbers : commandPart (p' .lent .codes) (p' .numbers) (p' .lent .command) ≡ map (scale k) (commandPart (p .lent .codes) (p .numbers) (p .lent .command))
-  pub ranges : rangesAnswer (trimRanges (p' .lent .trim)) ≡ rangesAnswer (trimRanges (p .lent .trim))
-  pub cut-lengths : CutsAlike k (lengthsAnswer (trimLengths (p .lent .trim) (p .lent .codes) (p .numbers))) (lengthsAnswer (trimLengths (p' .lent .trim) (p' .lent .codes) (p' .numbers)))
+  pub ranges : rangesAnswer (p' .lent .trim) ≡ rangesAnswer (p .lent .trim)
+  pub cut-lengths : CutsAlike k (lengthsAnswer (p .lent .trim) (p .lent .codes) (p .numbers)) (lengthsAnswer (p' .lent .trim) (p' .lent .codes) (p' .numbers))
   pub copy-order : orderAnswer (p' .repeater) ≡ orderAnswer (p .repeater)
   pub copy-transform : transformAnswer (p' .repeater) (p' .lent .copy) ≡ movedAnswer k (transformAnswer (p .repeater) (p .lent .copy))
   pub products : map (times k) (multipliedNumbers p) ≡ map (scale k) (multipliedNumbers p)

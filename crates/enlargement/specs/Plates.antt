@@ -10,11 +10,11 @@ use Rattle.ieee.specs.Literal.{hundred32}
 use Rattle.ieee.specs.Grid.{On}
 use Rattle.command.specs.declared.PathCommand.{PathCommand}
 use Rattle.command.specs.Commands.{codesOf, numbersOf}
-use Rattle.command.specs.Outcomes.{drawn}
+use Rattle.command.specs.Outcomes.{accepted}
 use Rattle.item.specs.declared.ItemRow.{ItemRow}
-use Rattle.item.specs.Rows.{itemRow}
+use Rattle.item.specs.Rows.{itemRow, entriesOf}
 use Rattle.draw.specs.Paths.{drawPath}
-use Rattle.draw.specs.Items.{entriesRead, drawItem}
+use Rattle.draw.specs.Items.{drawItem}
 use Rattle.join.specs.Merge.{drawMerge}
 use Rattle.join.specs.Joined.{JoinedRow}
 use Rattle.trim.specs.declared.TrimStyle.{TrimStyle}
@@ -52,7 +52,7 @@ OfVertices count i = i < 6 * count
 
 pub record OfRow (row : ItemRow) (i : ℕ) : Type 0 where
   pub from : row .place ≤ i
-  pub to : i < row .place + entriesRead row
+  pub to : i < row .place + entriesOf row
 
 pub record OfMerge (rows : List ℕ) (n i : ℕ) : Type 0 where
   pub row : ItemRow
@@ -73,9 +73,9 @@ GridAt read v = (i : ℕ) → read i → i < length v → OnGrid (getD v i nan)
 -- a command list that is what drawing or a merge gives for items on the grid, or none
 pub data Made : List PathCommand → Type 0 where
   of-nothing : Made []
-  of-vertices : (closed count : ℕ) (v : List Float) (cs : List PathCommand) → GridAt (OfVertices count) v → drawPath closed v count ≡ drawn cs → Made cs
-  of-row : (row : List ℕ) (items : List Float) (cs : List PathCommand) → GridAt (OfRow (itemRow row 0)) items → drawItem row items ≡ drawn cs → Made cs
-  of-merge : (rows : List ℕ) (n : ℕ) (items : List Float) (cs : List PathCommand) → GridAt (OfMerge rows n) items → drawMerge rows n items ≡ drawn cs → Made cs
+  of-vertices : (closed count : ℕ) (v : List Float) (cs : List PathCommand) → GridAt (OfVertices count) v → drawPath closed v count ≡ accepted cs → Made cs
+  of-row : (row : List ℕ) (items : List Float) (cs : List PathCommand) → GridAt (OfRow (itemRow row 0)) items → drawItem row items ≡ accepted cs → Made cs
+  of-merge : (rows : List ℕ) (n : ℕ) (items : List Float) (cs : List PathCommand) → GridAt (OfMerge rows n) items → drawMerge rows n items ≡ accepted cs → Made cs
 
 -- The conditions of the third demand: every number that is read as a coordinate is on the grid, the command list is made of such, and the repeater scales by 100.
 -- That the repeater has no rotation is not asked: one that has is refused alike. Nothing is asked of numbers that are not read, nor of all else.

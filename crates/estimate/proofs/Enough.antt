@@ -1,112 +1,103 @@
 -- An estimate is never less than a drawing of so many vertices writes, as a list or as a row, and it is refused only where every drawing of so many is, by the same number.
 -- A rectangle writes at most 10 codes and 34 numbers. Assumes nothing.
-use mathlib.Core.Path.{_≡_, refl, sym, subst, _∙_}
-use mathlib.Core.Bool.{Bool, true, false, cond}
-use mathlib.Core.List.{List}
+use mathlib.Core.Path.{_≡_, refl, sym, ap}
+use mathlib.Core.Bool.{Bool, true, false, cond, _&&_}
+use mathlib.Core.List.{List, [], _∷_}
 use Prim.Native.Nat.{ℕ, _+_, _*_, _≤_, _<_}
 use native.Mathlib.Omega.{arith}
 use lib.Dec.{eqb, ltb}
 use lib.Ieee.{Float, nan, le}
-use lib.ListN.{length, getD, take, drop}
+use lib.ListN.{length, getD, drop}
 use borrow.Author.Tests.{eqb-false}
-use Rattle.ieee.specs.Limit.{allWithin}
 use Rattle.command.specs.declared.PathCommand.{PathCommand}
 use Rattle.command.specs.declared.Refusal.{Refusal}
-use Rattle.command.specs.declared.Refusal.the-variants.{Empty, TooMany, OutOfRange, Unlisted, OutOfBounds}
-use Rattle.command.specs.declared.Need.the-variants.{Refused, Room}
+use Rattle.command.specs.declared.Refusal.the-variants.{Empty, TooMany, Unsupported}
 use Rattle.command.specs.Commands.{codesOf, numbersOf}
-use Rattle.command.specs.Outcomes.{refused, drawn}
-use Rattle.command.specs.Needs.{needCodes, needNumbers}
+use Rattle.command.specs.Outcomes.{Outcome, refused, accepted, mapped, listOf, _gives_, checked}
+use Rattle.command.proofs.Outcomes.{refused-accepted}
 use Rattle.path.specs.Path.{pathCommands}
 use Rattle.path.proofs.Counts.{path-codes, path-numbers}
-use Rattle.rect.specs.declared.Corners.{Corners}
-use Rattle.rect.specs.Rect.{epsilon, rectCorners, plainRect, roundRect, rectPath}
+use Rattle.rect.specs.declared.Bounds.{Bounds}
+use Rattle.rect.specs.Bounds.{rectBounds}
+use Rattle.rect.specs.Rect.{epsilon, cornerRadius, plainRect, roundRect, rectPath}
+use Rattle.shape.specs.declared.Shape.{Shape}
 use Rattle.shape.specs.declared.Shape.the-variants.{Path, Rect}
-use Rattle.shape.specs.Shape.{shapeCommands, Fit}
+use Rattle.shape.specs.Shape.{shapeCommands}
 use Rattle.item.specs.declared.ItemRow.{ItemRow}
-use Rattle.item.specs.Rows.{isPath}
-use Rattle.draw.specs.Checks.{coordinateLimit}
-use Rattle.draw.specs.Paths.{drawPath}
-use Rattle.draw.specs.Items.{itemShape, drawSource}
-use Rattle.draw.proofs.Sources.{drawn-source}
+use Rattle.item.specs.Rows.{isPath, isRect}
+use Rattle.draw.specs.Paths.{pathChecks, drawPath}
+use Rattle.draw.specs.Items.{itemShape, shapeDrawn, drawSource}
+use Rattle.draw.proofs.Sources.{drawn-path, drawn-source}
 use Rattle.estimate.specs.Estimate.{trayEstimate}
 use Rattle.estimate.proofs.Ways.{few}
 
 -- commands drawn from n vertices fit the estimate's codes and numbers
 pub record Enough (n : ℕ) (cs : List PathCommand) : Type 0 where
-  pub room : trayEstimate n ≡ Room (n + 2) (6 * n + 2)
-  pub codes : length (codesOf cs) ≤ needCodes (trayEstimate n)
-  pub numbers : length (numbersOf cs) ≤ needNumbers (trayEstimate n)
+  pub room : ℕ × ℕ
+  pub told : trayEstimate n ≡ accepted room
+  pub codes : length (codesOf cs) ≤ room .0
+  pub numbers : length (numbersOf cs) ≤ room .1
 
-pub enough : (closed : ℕ) (v : List Float) (n : ℕ) (cs : List PathCommand) → drawPath closed v n ≡ drawn cs → Enough n cs
-unfolding drawPath trayEstimate
-enough closed v n cs = go (eqb n 0) refl (ltb 1024 n) refl (ltb 1 closed) (ltb (length v) (6 * n)) (allWithin coordinateLimit (take (6 * n) v))
-  where
-    go : (a : Bool) → eqb n 0 ≡ a → (b : Bool) → ltb 1024 n ≡ b → (c d e : Bool)
-        → cond a (refused Empty) (cond b (refused TooMany) (cond c (refused Unlisted) (cond d (refused OutOfBounds) (cond e (drawn (pathCommands closed v n)) (refused OutOfRange))))) ≡ drawn cs
-        → Enough n cs
-    go true p b q c d e f = let z : _≡_ {A = ℕ} 0 1 = cc in absurd (omega arith)
-    go false p true q c d e f = let z : _≡_ {A = ℕ} 0 1 = cc in absurd (omega arith)
-    go false p false q true d e f = let z : _≡_ {A = ℕ} 0 1 = cc in absurd (omega arith)
-    go false p false q false true e f = let z : _≡_ {A = ℕ} 0 1 = cc in absurd (omega arith)
-    go false p false q false false false f = let z : _≡_ {A = ℕ} 0 1 = cc in absurd (omega arith)
-    go false p false q false false true f =
-        let cs-is : pathCommands closed v n ≡ cs = cc in
-        let some : n ≡ 0 → ⊥ = eqb-false n 0 p in
-        let is : trayEstimate n ≡ Room (n + 2) (6 * n + 2) = rw (p, q) in
-        record {
-          room = is;
-          codes = rw (is, ← cs-is) (path-codes closed v n (omega arith));
-          numbers = rw (is, ← cs-is) (path-numbers closed v n (omega arith));
-        }
+abbrev room : ℕ → Outcome (ℕ × ℕ)
+room n = accepted (n + 2, 6 * n + 2)
+
+path-enough : (closed : ℕ) (v : List Float) (n : ℕ) → 0 < n → n ≤ 1024 → Enough n (pathCommands closed v n)
+path-enough closed v n some most = record {
+  room = (n + 2, 6 * n + 2);
+  told = sym (few n (λ z. omega arith) most);
+  codes = path-codes closed v n some;
+  numbers = path-numbers closed v n some;
+}
+
+pub enough : (closed : ℕ) (v : List Float) (n : ℕ) (cs : List PathCommand) → drawPath closed v n ≡ accepted cs → Enough n cs
+enough closed v n cs e = let s = drawn-path closed v n cs e in rw (s .2) (path-enough closed v n (s .0) (s .1))
 
 -- a refused estimate is the drawing's own refusal
-pub refused-alike : (closed : ℕ) (v : List Float) (n : ℕ) (r : Refusal) → trayEstimate n ≡ Refused r → drawPath closed v n ≡ refused r
-unfolding drawPath trayEstimate
-refused-alike closed v n r = go (eqb n 0) (ltb 1024 n)
+pub refused-alike : (closed : ℕ) (v : List Float) (n : ℕ) (r : Refusal) → trayEstimate n ≡ refused r → drawPath closed v n ≡ refused r
+unfolding drawPath pathChecks trayEstimate
+refused-alike closed v n r = go (eqb n 0) (ltb 1024 n) _
   where
-    go : (a b : Bool) → cond a (Refused Empty) (cond b (Refused TooMany) (Room (n + 2) (6 * n + 2))) ≡ Refused r
-        → cond a (refused Empty) (cond b (refused TooMany) (cond (ltb 1 closed) (refused Unlisted) (cond (ltb (length v) (6 * n)) (refused OutOfBounds) (cond (allWithin coordinateLimit (take (6 * n) v)) (drawn (pathCommands closed v n)) (refused OutOfRange))))) ≡ refused r
-    go true b e = cc
-    go false true e = cc
-    go false false e = let z : _≡_ {A = ℕ} 0 1 = cc in absurd (omega arith)
+    go : (a b : Bool) (o : Outcome (List PathCommand)) → checked ((a gives Empty) ∷ (b gives TooMany) ∷ []) (room n) ≡ refused r
+        → checked ((a gives Empty) ∷ (b gives TooMany) ∷ []) o ≡ refused r
+    go true b o e = cc
+    go false true o e = cc
+    go false false o e = refused-accepted r (n + 2, 6 * n + 2) (sym e)
 
 -- ---- a row
-module _ (row : ItemRow) (items : List Float) (cs : List PathCommand) (e : drawSource row items ≡ drawn cs) where
+module _ (row : ItemRow) (items : List Float) (cs : List PathCommand) (e : drawSource row items ≡ accepted cs) where
   abbrev v : List Float
   v = drop (row .place) items
 
-  commands-are : cs ≡ shapeCommands (itemShape row v) v
-  commands-are = drawn-source row items cs e .commands
+  abbrev rect : Shape
+  rect = Rect (cornerRadius (getD v 2 nan) (getD v 3 nan) (getD v 4 nan))
+
+  drawn-as : (a b : Bool) → isPath row ≡ a → isRect row ≡ b
+      → mapped (λ (s : Shape). shapeCommands s v) (cond a (accepted (Path (row .mark) (row .count))) (cond b (accepted rect) (refused Unsupported))) ≡ accepted cs
+  unfolding shapeDrawn itemShape
+  drawn-as a b p q = rw (← p, ← q) (drawn-source row items cs e .drawn)
 
   pub row-enough : isPath row ≡ true → Enough (row .count) cs
-  row-enough path = record {
-    room = is;
-    codes = rw (is, path-is) (path-codes (row .mark) v (row .count) some);
-    numbers = rw (is, path-is) (path-numbers (row .mark) v (row .count) some);
-  }
-    where
-      path-is : cs ≡ pathCommands (row .mark) v (row .count)
-      path-is = commands-are ∙ (unfold itemShape shapeCommands in (rw path))
-
-      fit : Fit (Path (row .mark) (row .count)) v
-      fit = subst (λ (b : Bool). Fit (cond b (Path (row .mark) (row .count)) (Rect (rectCorners (getD v 0 nan) (getD v 1 nan) (getD v 2 nan) (getD v 3 nan) (getD v 4 nan)))) v) path (unfold itemShape in (drawn-source row items cs e .fits))
-
-      some : 0 < row .count
-      some = fit .some
-
-      is : trayEstimate (row .count) ≡ Room (row .count + 2) (6 * row .count + 2)
-      is = sym (few (row .count) (λ z. omega (arith, some)) (fit .few))
+  unfolding shapeCommands
+  row-enough path =
+      let P = drawn-source row items cs e .passed in
+      let some : (isPath row && eqb (row .count) 0) ≡ false = P .some in
+      let one : row .count ≡ 0 → ⊥ = eqb-false (row .count) 0 (rw path at some) in
+      let is : pathCommands (row .mark) v (row .count) ≡ cs = ap listOf (drawn-as true (isRect row) path refl) in
+      rw (← is) (path-enough (row .mark) v (row .count) (omega arith) (P .few))
 
   pub rectangle-enough : isPath row ≡ false → (length (codesOf cs) ≤ 10) × (length (numbersOf cs) ≤ 34)
-  rectangle-enough other = rw rect-is (rect-few (le (c .radius) epsilon))
+  unfolding shapeCommands rectPath
+  rectangle-enough other = go (isRect row) refl
     where
-      c : Corners
-      c = rectCorners (getD v 0 nan) (getD v 1 nan) (getD v 2 nan) (getD v 3 nan) (getD v 4 nan)
+      rect-few : (b : Bool) (box : Bounds) (q : Float)
+          → (length (codesOf (cond b (plainRect box) (roundRect box q))) ≤ 10) × (length (numbersOf (cond b (plainRect box) (roundRect box q))) ≤ 34)
+      rect-few true box q = unfold plainRect in (omega arith, omega arith)
+      rect-few false box q = unfold roundRect in (omega arith, omega arith)
 
-      rect-is : cs ≡ cond (le (c .radius) epsilon) (plainRect c) (roundRect c)
-      rect-is = commands-are ∙ (unfold itemShape shapeCommands rectPath in (rw other))
-
-      rect-few : (b : Bool) → (length (codesOf (cond b (plainRect c) (roundRect c))) ≤ 10) × (length (numbersOf (cond b (plainRect c) (roundRect c))) ≤ 34)
-      rect-few true = unfold plainRect in (omega arith, omega arith)
-      rect-few false = unfold roundRect in (omega arith, omega arith)
+      go : (b : Bool) → isRect row ≡ b → (length (codesOf cs) ≤ 10) × (length (numbersOf cs) ≤ 34)
+      go true p =
+          let q = cornerRadius (getD v 2 nan) (getD v 3 nan) (getD v 4 nan) in
+          let box = rectBounds (getD v 0 nan) (getD v 1 nan) (getD v 2 nan) (getD v 3 nan) in
+          let is : cond (le q epsilon) (plainRect box) (roundRect box q) ≡ cs = ap listOf (drawn-as false true other p) in
+          rw (← is) (rect-few (le q epsilon) box q)
+      go false p = refused-accepted Unsupported cs (drawn-as false false other p)

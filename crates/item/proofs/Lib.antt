@@ -1,2 +1,3 @@
--- What the proofs of `item` cite.
+-- What the proofs of `item` cite, and how many numbers a row has.
+pub mod Entries
 pub mod Ways

@@ -1,28 +1,30 @@
 -- What each way out of a function of this crate owes, as the code meets it: a premise for each test and for each call's result.
 -- Assumes nothing.
-use mathlib.Core.Path.{_≡_}
-use mathlib.Core.Bool.{true, false}
-use Prim.Native.Nat.{ℕ, _≤_, _<_}
-use lib.Dec.{eqb}
+use mathlib.Core.Path.{_≡_, sym}
+use mathlib.Core.Bool.{Bool, true, false}
+use Prim.Native.Nat.{ℕ, _*_, _≤_, _<_}
+use native.Mathlib.Omega.{arith}
+use lib.Dec.{eqb, leb}
 use borrow.Author.Tests.{eq-eqb, ne-eqb, lt-leb, le-leb}
 use Rattle.item.specs.declared.ItemRow.{ItemRow}
-use Rattle.item.specs.Rows.{markLimit, isListed}
+use Rattle.item.specs.Rows.{isMark, isListed, entriesOf}
+use Rattle.item.proofs.Entries.{entries-path, entries-rect, entries-none}
 
--- ---- mark_limit
-module _ (kind : ℕ) where
-  pub path-limit : kind ≡ 1 → 1 ≡ markLimit kind
-  unfolding markLimit
-  path-limit a = rw (eq-eqb kind 1 a)
+-- ---- is_mark
+module _ (kind mark : ℕ) where
+  pub path-mark : kind ≡ 1 → leb mark 1 ≡ isMark kind mark
+  unfolding isMark
+  path-mark a = rw a
 
-  pub merge-limit : (kind ≡ 1 → ⊥) → kind ≡ 13 → 255 ≡ markLimit kind
-  unfolding markLimit
-  merge-limit a b = rw (ne-eqb kind 1 a, eq-eqb kind 13 b)
+  pub merge-mark : kind ≡ 13 → leb mark 255 ≡ isMark kind mark
+  unfolding isMark
+  merge-mark a = rw a
 
-  pub no-limit : (kind ≡ 1 → ⊥) → (kind ≡ 13 → ⊥) → 0 ≡ markLimit kind
-  unfolding markLimit
-  no-limit a b = rw (ne-eqb kind 1 a, ne-eqb kind 13 b)
+  pub no-mark : (kind ≡ 1 → ⊥) → (kind ≡ 13 → ⊥) → eqb mark 0 ≡ isMark kind mark
+  unfolding isMark
+  no-mark a b = rw (ne-eqb kind 1 a, ne-eqb kind 13 b)
 
-pub ruleset limits = (path-limit, merge-limit, no-limit)
+pub ruleset marks = (path-mark, merge-mark, no-mark)
 
 -- ---- is_listed
 module _ (row : ItemRow) where
@@ -40,18 +42,31 @@ module _ (row : ItemRow) where
       unfolding isListed
       hidden-past h = rw (le-leb 1 (row .kind) a, le-leb (row .kind) 14 b, lt-leb (row .hidden) 1 h)
 
-      module _ (d : row .hidden ≤ 1) (limit : ℕ) (limit-is : limit ≡ markLimit (row .kind)) where
-        pub mark-past : limit < row .mark → false ≡ isListed row
+      module _ (d : row .hidden ≤ 1) (t : Bool) (t-is : t ≡ isMark (row .kind) (row .mark)) where
+        pub mark-unlisted : t ≡ false → false ≡ isListed row
         unfolding isListed
-        mark-past h = rw (le-leb 1 (row .kind) a, le-leb (row .kind) 14 b, le-leb (row .hidden) 1 d, ← limit-is, lt-leb (row .mark) limit h)
+        mark-unlisted h = rw (le-leb 1 (row .kind) a, le-leb (row .kind) 14 b, le-leb (row .hidden) 1 d, ← t-is, h)
 
-        module _ (m : row .mark ≤ limit) where
+        module _ (m : t ≡ true) where
           pub path-listed : row .kind ≡ 1 → true ≡ isListed row
           unfolding isListed
-          path-listed e = rw (le-leb 1 (row .kind) a, le-leb (row .kind) 14 b, le-leb (row .hidden) 1 d, ← limit-is, le-leb (row .mark) limit m, eq-eqb (row .kind) 1 e)
+          path-listed e = rw (le-leb 1 (row .kind) a, le-leb (row .kind) 14 b, le-leb (row .hidden) 1 d, ← t-is, m, eq-eqb (row .kind) 1 e)
 
           pub count-none : (row .kind ≡ 1 → ⊥) → eqb (row .count) 0 ≡ isListed row
           unfolding isListed
-          count-none e = rw (le-leb 1 (row .kind) a, le-leb (row .kind) 14 b, le-leb (row .hidden) 1 d, ← limit-is, le-leb (row .mark) limit m, ne-eqb (row .kind) 1 e)
+          count-none e = rw (le-leb 1 (row .kind) a, le-leb (row .kind) 14 b, le-leb (row .hidden) 1 d, ← t-is, m, ne-eqb (row .kind) 1 e)
 
-pub ruleset rules = (kind-zero, kind-past, hidden-past, mark-past, path-listed, count-none)
+pub ruleset rules = (kind-zero, kind-past, hidden-past, mark-unlisted, path-listed, count-none)
+
+-- ---- entries_of
+module _ (row : ItemRow) where
+  pub path-entries : row .kind ≡ 1 → 6 * row .count ≡ entriesOf row
+  path-entries e = sym (entries-path row (eq-eqb (row .kind) 1 e))
+
+  pub rect-entries : row .kind ≡ 2 → 5 ≡ entriesOf row
+  rect-entries e = sym (entries-rect row (ne-eqb (row .kind) 1 (λ h. omega arith)) (eq-eqb (row .kind) 2 e))
+
+  pub no-entries : (row .kind ≡ 1 → ⊥) → (row .kind ≡ 2 → ⊥) → 0 ≡ entriesOf row
+  no-entries a b = sym (entries-none row (ne-eqb (row .kind) 1 a) (ne-eqb (row .kind) 2 b))
+
+pub ruleset entries = (path-entries, rect-entries, no-entries)

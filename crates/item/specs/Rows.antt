@@ -22,6 +22,9 @@ itemRow rows r = record {
 abbrev pub isPath : ItemRow → Bool
 isPath row = eqb (row .kind) 1
 
+abbrev pub isRect : ItemRow → Bool
+isRect row = eqb (row .kind) 2
+
 -- what can be drawn: sh, rc, el, sr
 abbrev pub isSource : ItemRow → Bool
 isSource row = leb 1 (row .kind) && leb (row .kind) 4
@@ -44,13 +47,23 @@ isVisible row = eqb (row .hidden) 0
 
 -- ---- the rules
 
--- the largest mark of a kind: a closed flag for sh, a mode for mm, else 0
-unfoldable pub markLimit : ℕ → ℕ
-markLimit kind = cond (eqb kind 1) 1 (cond (eqb kind 13) 255 0)
+-- the marks that a kind may bear: a closed flag for sh, a mode for mm, else 0
+unfoldable pub isMark : ℕ → ℕ → Bool
+isMark kind mark =
+    cond (eqb kind 1) (leb mark 1)
+    (cond (eqb kind 13) (leb mark 255)
+    (eqb mark 0))
 
 -- A row with listed entries. The count is the vertex number of an sh, else 0; the place may be any.
 unfoldable pub isListed : ItemRow → Bool
-unfolding markLimit
+unfolding isMark
 isListed row =
-    leb 1 (row .kind) && leb (row .kind) 14 && leb (row .hidden) 1 && leb (row .mark) (markLimit (row .kind))
+    leb 1 (row .kind) && leb (row .kind) 14 && leb (row .hidden) 1 && isMark (row .kind) (row .mark)
     && (isPath row || eqb (row .count) 0)
+
+-- how many numbers a row has in the item list: six a vertex for sh; centre, size and roundness for rc; a kind that is not drawn has none
+unfoldable pub entriesOf : ItemRow → ℕ
+entriesOf row =
+    cond (isPath row) (6 * row .count)
+    (cond (isRect row) 5
+    0)

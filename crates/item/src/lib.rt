@@ -2,7 +2,7 @@
 ghost use mathlib.Core.Path.{_≡_};
 ghost use Prim.Native.Nat.{_+_, _*_, _≤_};
 ghost use lib.ListN.{length};
-ghost use Rattle.item.specs.Rows.{itemRow, markLimit, isListed};
+ghost use Rattle.item.specs.Rows.{itemRow, isMark, isListed, entriesOf};
 
 pub struct ItemRow {
     pub kind: u32,
@@ -32,17 +32,15 @@ pub fn item_row(rows: &[u32], r: usize) -> ItemRow
     }
 }
 
-// The largest mark that a kind may bear.
-fn mark_limit(kind: u32) -> u32
-    ensures { λ r. ⌜ r ≡ markLimit kind ⌝ }
+// Whether a kind may bear a mark.
+fn is_mark(kind: u32, mark: u32) -> bool
+    ensures { λ r. ⌜ r ≡ isMark kind mark ⌝ }
 {
-    if kind == 1 {
-        return 1;
+    match kind {
+        1 => mark <= 1,
+        13 => mark <= 255,
+        _ => mark == 0,
     }
-    if kind == 13 {
-        return 255;
-    }
-    0
 }
 
 // Whether a row has only listed entries.
@@ -58,11 +56,22 @@ pub fn is_listed(row: ItemRow) -> bool
     if row.hidden > 1 {
         return false;
     }
-    if row.mark > mark_limit(row.kind) {
-        return false;
+    if is_mark(row.kind, row.mark) {
+        if row.kind == 1 { true } else { row.count == 0 }
+    } else {
+        false
     }
-    if row.kind == 1 {
-        return true;
+}
+
+// How many numbers a row has in the item list.
+pub fn entries_of(row: ItemRow) -> usize
+    requires { ⌜ row .count ≤ 1024 ⌝ }
+    ensures { λ r. ⌜ r ≡ entriesOf row ⌝ }
+{
+    let kind = row.kind;
+    match kind {
+        1 => 6 * row.count,
+        2 => 5,
+        _ => 0,
     }
-    row.count == 0
 }

@@ -8,17 +8,15 @@ ghost use Rattle.ieee.specs.Whole as Whole;
 ghost use Rattle.ieee.specs.Remainder.{remEuclid};
 ghost use Rattle.ieee.specs.Fused.{fma};
 ghost use Rattle.ieee.specs.Root.{hypotOf};
-ghost use Rattle.command.specs.Outcomes.{Filled, fitted};
-ghost use Rattle.command.specs.Needs.{Needed};
+ghost use Rattle.command.specs.Outcomes.{Told, Counted};
+ghost use Rattle.command.specs.Buffers.{fitted, inBuffer, inBuffers, Filled, FilledBoth};
 ghost use Rattle.draw.specs.Paths.{drawPath};
 ghost use Rattle.draw.specs.Items.{drawItem};
 ghost use Rattle.estimate.specs.Estimate.{trayEstimate};
 ghost use Rattle.join.specs.Merge.{drawMerge};
-ghost use Rattle.judge.specs.Lists.{Located, findCommand};
-ghost use Rattle.length.specs.Lists.{Told, measureList};
-ghost use Rattle.cut.specs.Calls.{trimRanges, trimLengths};
+ghost use Rattle.judge.specs.Lists.{findCommand};
+ghost use Rattle.length.specs.Lists.{measureList};
 ghost use Rattle.cut.specs.Answers.{rangesAnswer, lengthsAnswer, Placed};
-ghost use Rattle.copies.specs.Answers as Copies;
 ghost use Rattle.copies.specs.Calls.{repeaterOf, orderAnswer, transformAnswer};
 use cut::Shown;
 use cut::Trimmed;
@@ -84,15 +82,15 @@ pub extern "C" fn jengafir_draw_path(
     codes_written: &mut usize,
     numbers_written: &mut usize,
 ) -> u32
-    ensures { λ r. ⌜ Filled
-        (fitted (length (now (codes .entry))) (length (now (numbers .entry))) (drawPath closed (now (vertices .entry)) count))
+    ensures { λ r. ⌜ FilledBoth
+        (fitted (inBuffers (length (now (codes .entry))) (length (now (numbers .entry)))) (drawPath closed (now (vertices .entry)) count))
         r (now («codes_written» .exit)) (now («numbers_written» .exit))
         (now (codes .entry)) (now (codes .exit)) (now (numbers .entry)) (now (numbers .exit)) ⌝ }
 {
     let drawn = draw::draw_path(closed, vertices, count, codes, numbers);
-    *codes_written = command::drawn_codes(drawn);
-    *numbers_written = command::drawn_numbers(drawn);
-    command::drawn_number(drawn)
+    *codes_written = command::first_count(drawn);
+    *numbers_written = command::second_count(drawn);
+    command::counts_number(drawn)
 }
 
 #[no_mangle]
@@ -104,15 +102,15 @@ pub extern "C" fn jengafir_draw_item(
     codes_written: &mut usize,
     numbers_written: &mut usize,
 ) -> u32
-    ensures { λ r. ⌜ Filled
-        (fitted (length (now (codes .entry))) (length (now (numbers .entry))) (drawItem (now (row .entry)) (now (items .entry))))
+    ensures { λ r. ⌜ FilledBoth
+        (fitted (inBuffers (length (now (codes .entry))) (length (now (numbers .entry)))) (drawItem (now (row .entry)) (now (items .entry))))
         r (now («codes_written» .exit)) (now («numbers_written» .exit))
         (now (codes .entry)) (now (codes .exit)) (now (numbers .entry)) (now (numbers .exit)) ⌝ }
 {
     let drawn = draw::draw_item(row, items, codes, numbers);
-    *codes_written = command::drawn_codes(drawn);
-    *numbers_written = command::drawn_numbers(drawn);
-    command::drawn_number(drawn)
+    *codes_written = command::first_count(drawn);
+    *numbers_written = command::second_count(drawn);
+    command::counts_number(drawn)
 }
 
 #[no_mangle]
@@ -121,12 +119,12 @@ pub extern "C" fn jengafir_tray_estimate(
     codes_needed: &mut usize,
     numbers_needed: &mut usize,
 ) -> u32
-    ensures { λ r. ⌜ Needed (trayEstimate count) r (now («codes_needed» .exit)) (now («numbers_needed» .exit)) ⌝ }
+    ensures { λ r. ⌜ Counted (trayEstimate count) r (now («codes_needed» .exit)) (now («numbers_needed» .exit)) ⌝ }
 {
     let need = estimate::tray_estimate(count);
-    *codes_needed = command::need_codes(need);
-    *numbers_needed = command::need_numbers(need);
-    command::need_number(need)
+    *codes_needed = command::first_count(need);
+    *numbers_needed = command::second_count(need);
+    command::counts_number(need)
 }
 
 #[no_mangle]
@@ -139,15 +137,15 @@ pub extern "C" fn jengafir_merge(
     codes_written: &mut usize,
     numbers_written: &mut usize,
 ) -> u32
-    ensures { λ r. ⌜ Filled
-        (fitted (length (now (codes .entry))) (length (now (numbers .entry))) (drawMerge (now (rows .entry)) «row_count» (now (items .entry))))
+    ensures { λ r. ⌜ FilledBoth
+        (fitted (inBuffers (length (now (codes .entry))) (length (now (numbers .entry)))) (drawMerge (now (rows .entry)) «row_count» (now (items .entry))))
         r (now («codes_written» .exit)) (now («numbers_written» .exit))
         (now (codes .entry)) (now (codes .exit)) (now (numbers .entry)) (now (numbers .exit)) ⌝ }
 {
     let drawn = join::draw_merge(rows, row_count, items, codes, numbers);
-    *codes_written = command::drawn_codes(drawn);
-    *numbers_written = command::drawn_numbers(drawn);
-    command::drawn_number(drawn)
+    *codes_written = command::first_count(drawn);
+    *numbers_written = command::second_count(drawn);
+    command::counts_number(drawn)
 }
 
 #[no_mangle]
@@ -171,12 +169,12 @@ pub extern "C" fn jengafir_command(
     start: &mut usize,
     count: &mut usize,
 ) -> u32
-    ensures { λ r. ⌜ Located (findCommand (now (codes .entry)) (now (numbers .entry)) k) r (now (start .exit)) (now (count .exit)) ⌝ }
+    ensures { λ r. ⌜ Counted (findCommand (now (codes .entry)) (now (numbers .entry)) k) r (now (start .exit)) (now (count .exit)) ⌝ }
 {
     let found = judge::find_command(codes, numbers, k);
-    *start = judge::found_start(found);
-    *count = judge::found_count(found);
-    judge::found_number(found)
+    *start = command::first_count(found);
+    *count = command::second_count(found);
+    command::counts_number(found)
 }
 
 #[no_mangle]
@@ -188,8 +186,8 @@ pub extern "C" fn jengafir_trim_ranges(
     range_count: &mut usize,
     whole: &mut u32,
 ) -> u32
-    ensures { λ r. ⌜ Placed
-        (rangesAnswer (trimRanges (record { start = start; end = end; «offset_degrees» = offset; mode = 1 })))
+    ensures { λ r. ⌜ Placed 2
+        (rangesAnswer (record { start = start; end = end; «offset_degrees» = offset; mode = 1 }))
         r (now («range_count» .exit)) (now (ranges .entry)) (now (ranges .exit)) (now (whole .entry)) (now (whole .exit)) ⌝ }
 {
     let trim = TrimStyle {
@@ -224,8 +222,8 @@ pub extern "C" fn jengafir_trim_lengths(
     range_count: &mut usize,
     whole: &mut u32,
 ) -> u32
-    ensures { λ r. ⌜ Placed
-        (lengthsAnswer (trimLengths (record { start = start; end = end; «offset_degrees» = offset; mode = mode }) (now (codes .entry)) (now (numbers .entry))))
+    ensures { λ r. ⌜ Placed 3
+        (lengthsAnswer (record { start = start; end = end; «offset_degrees» = offset; mode = mode }) (now (codes .entry)) (now (numbers .entry)))
         r (now («range_count» .exit)) (now (cuts .entry)) (now (cuts .exit)) (now (whole .entry)) (now (whole .exit)) ⌝ }
 {
     let trim = TrimStyle {
@@ -255,8 +253,8 @@ pub extern "C" fn jengafir_copy_order(
     order: &mut [u32],
     order_count: &mut usize,
 ) -> u32
-    ensures { λ r. ⌜ Copies.Filled
-        (Copies.fitted (length (now (order .entry))) (orderAnswer (repeaterOf (now (repeater .entry)) mode)))
+    ensures { λ r. ⌜ Filled
+        (fitted (inBuffer (length (now (order .entry)))) (orderAnswer (repeaterOf (now (repeater .entry)) mode)))
         r (now («order_count» .exit)) (now (order .entry)) (now (order .exit)) ⌝ }
 {
     let written = copies::copy_order(copies::repeater_of(repeater, mode), order);
@@ -272,8 +270,8 @@ pub extern "C" fn jengafir_copy_transform(
     matrix: &mut [f32],
     matrix_count: &mut usize,
 ) -> u32
-    ensures { λ r. ⌜ Copies.Filled
-        (Copies.fitted (length (now (matrix .entry))) (transformAnswer (repeaterOf (now (repeater .entry)) mode) copy))
+    ensures { λ r. ⌜ Filled
+        (fitted (inBuffer (length (now (matrix .entry)))) (transformAnswer (repeaterOf (now (repeater .entry)) mode) copy))
         r (now («matrix_count» .exit)) (now (matrix .entry)) (now (matrix .exit)) ⌝ }
 {
     let written = copies::copy_transform(copies::repeater_of(repeater, mode), copy, matrix);

@@ -7,9 +7,10 @@ use Rattle.ieee.specs.Choice.{min, clamp}
 use Rattle.ieee.specs.Fused.{fma}
 use Rattle.command.specs.declared.PathCommand.the-variants.{Move, Line, Close}
 use Rattle.command.specs.declared.Refusal.the-variants.{Empty, TooMany, OutOfRange, Unsupported, NotMergeable, OutOfBounds}
-use Rattle.command.specs.Outcomes.{refused, drawn}
+use Rattle.command.specs.Outcomes.{refused, accepted}
 use Rattle.path.specs.Path.{pathCommands}
-use Rattle.rect.specs.Rect.{rectCorners, rectPath}
+use Rattle.rect.specs.Bounds.{rectBounds}
+use Rattle.rect.specs.Rect.{cornerRadius, rectPath}
 use Rattle.join.specs.Merge.{drawMerge}
 
 -- an f32 by its bit pattern
@@ -40,15 +41,15 @@ rectangles =
 
 -- ---- the commands of the sources, in row order
 two : drawMerge (rectangle 5 ++ rectangle 0 ++ merge) 3 rectangles
-    ≡ drawn (
+    ≡ accepted (
     Move (f 0x3f80_0000) (f 0xc000_0000) ∷ Line (f 0x4040_0000) (f 0xc000_0000) ∷ Line (f 0x4040_0000) (f 0x4000_0000) ∷ Line (f 0x3f80_0000) (f 0x4000_0000) ∷ Close
     ∷ Move (f 0xbf80_0000) (f 0xbf80_0000) ∷ Line (f 0x3f80_0000) (f 0xbf80_0000) ∷ Line (f 0x3f80_0000) (f 0x3f80_0000) ∷ Line (f 0xbf80_0000) (f 0x3f80_0000) ∷ Close ∷ [])
-unfolding drawMerge rectCorners rectPath fma min clamp mul lt le neg sum round units size span climb odd ofBits ofFields isNan
+unfolding drawMerge rectBounds cornerRadius rectPath fma min clamp mul lt le neg sum round units size span climb odd ofBits ofFields isNan
 two = refl
 
 -- a path of one vertex is a move and a line to it; a hidden row between draws nothing, and its place is not looked at
 points : drawMerge (path 0 1 ++ hiddenRectangle 99 ++ path 4 1 ++ merge) 4 rectangles
-    ≡ drawn (Move (f 0) (f 0) ∷ Line (f 0) (f 0) ∷ Move (f 0) (f 0x4000_0000) ∷ Line (f 0) (f 0x4000_0000) ∷ [])
+    ≡ accepted (Move (f 0) (f 0) ∷ Line (f 0) (f 0) ∷ Move (f 0) (f 0x4000_0000) ∷ Line (f 0) (f 0x4000_0000) ∷ [])
 unfolding drawMerge pathCommands le ofBits ofFields
 points = refl
 

@@ -7,15 +7,16 @@ use native.Mathlib.Omega.{arith}
 use lib.Dec.{eqb, leb, ltb}
 use lib.ListN.{length, getD, take, drop}
 use borrow.Author.Tests.{ltb-false}
-use Rattle.command.specs.declared.Refusal.{Refusal}
-use Rattle.command.specs.declared.Refusal.the-variants.{Empty, TooMany, Unlisted, BrokenNesting, NotMergeable, OutOfBounds}
+use Rattle.command.specs.declared.Refusal.the-variants.{NotMergeable}
+use Rattle.command.specs.Outcomes.{Outcome, refused, accepted}
 use Rattle.item.specs.declared.ItemRow.{ItemRow}
 use Rattle.item.specs.Rows.{itemRow, isListed}
 use Rattle.nest.specs.Lists.{rowsFrom, eachRow, isShallow, isNested}
 use Rattle.merge.specs.declared.Scan.{Scan}
 use Rattle.merge.specs.declared.Scan.the-variants.{Nowhere, At}
 use Rattle.merge.specs.Flat.{isSourceRow, sourcesFrom, scanFrom, lateFrom}
-use Rattle.merge.specs.Decision.{Ruling, declined, joined, ruling, decision}
+use Rattle.merge.specs.Decision.{decision}
+use Rattle.merge.proofs.Passed.{decision-passed}
 use Rattle.merge.proofs.Flat.{settled, flatRuling, ruling-flat, length-rows, take-rows, scan-inside}
 
 -- ---- the sources among rows
@@ -60,38 +61,26 @@ record Decided (rows : List ℕ) (n : ℕ) (numbers : List ℕ) : Type 0 where
   few : n ≤ 256
   are : numbers ≡ sourcesFrom 0 (rowsFrom rows 0 end)
 
--- a decision that joins met every check
-reached : (a b c d e f : Bool) (q r s t u v : Refusal) (x : Ruling) (numbers : List ℕ)
-    → cond a (declined q) (cond b (declined r) (cond c (declined s) (cond d (declined t) (cond e (declined u) (cond f (declined v) x))))) ≡ joined numbers
-    → (b ≡ false) × (x ≡ joined numbers)
-reached true b c d e f q r s t u v x numbers h = (cc, cc)
-reached false true c d e f q r s t u v x numbers h = (cc, cc)
-reached false false true d e f q r s t u v x numbers h = (cc, cc)
-reached false false false true e f q r s t u v x numbers h = (cc, cc)
-reached false false false false true f q r s t u v x numbers h = (cc, cc)
-reached false false false false false true q r s t u v x numbers h = (cc, cc)
-reached false false false false false false q r s t u v x numbers h = (refl, h)
-
-settled-joined : (rs : List ItemRow) (s : Scan) (numbers : List ℕ) → scanFrom 0 0 rs ≡ s → settled s rs ≡ joined numbers
+settled-joined : (rs : List ItemRow) (s : Scan) (numbers : List ℕ) → scanFrom 0 0 rs ≡ s → settled s rs ≡ accepted numbers
     → (m : ℕ) × (m < length rs) × (numbers ≡ sourcesFrom 0 (take m rs))
 unfolding settled
 settled-joined rs Nowhere numbers e h = let z : _≡_ {A = ℕ} 0 1 = cc in absurd (omega arith)
 settled-joined rs (At m c) numbers e h = (m, scan-inside rs m c e, go (leb 2 c && lateFrom true (drop (m + 1) rs)) h)
   where
-    go : (b : Bool) → cond b (joined (sourcesFrom 0 (take m rs))) (declined NotMergeable) ≡ joined numbers → numbers ≡ sourcesFrom 0 (take m rs)
+    go : (b : Bool) → cond b (accepted (sourcesFrom 0 (take m rs))) (refused NotMergeable) ≡ accepted numbers → numbers ≡ sourcesFrom 0 (take m rs)
     go true f = cc
     go false f = cc
 
-decided : (rows : List ℕ) (n : ℕ) (numbers : List ℕ) → decision rows n ≡ joined numbers → Decided rows n numbers
-unfolding decision flatRuling
+decided : (rows : List ℕ) (n : ℕ) (numbers : List ℕ) → decision rows n ≡ accepted numbers → Decided rows n numbers
+unfolding flatRuling
 decided rows n numbers e =
-    let p = reached (eqb n 0) (ltb 256 n) (ltb (length rows) (6 * n)) (not (eachRow isShallow (rowsFrom rows 0 n))) (not (eachRow isListed (rowsFrom rows 0 n))) (not (isNested 0 (rowsFrom rows 0 n))) Empty TooMany OutOfBounds TooMany Unlisted BrokenNesting (ruling rows n) numbers e in
+    let p = decision-passed rows n numbers e in
     let s = settled-joined (rowsFrom rows 0 n) (scanFrom 0 0 (rowsFrom rows 0 n)) numbers refl (sym (ruling-flat rows n) ∙ p .1) in
     let below : s .0 < n = omega (arith, length-rows rows 0 n) in
     record {
       end = s .0;
       end-below = below;
-      few = ltb-false 256 n (p .0);
+      few = p .0;
       are = s .2 ∙ ap (sourcesFrom 0) (take-rows rows (s .0) 0 n (omega arith));
     }
 
@@ -103,7 +92,7 @@ at-of rows m n numbers l e i h =
     let s : SourceBelow rows (0 + m) (getD numbers i 0) = rw e (source-at rows m 0 i (omega (arith, ap length e))) in
     record { below = omega arith; source = s .source }
 
-module _ (rows : List ℕ) (n : ℕ) (numbers : List ℕ) (e : decision rows n ≡ joined numbers) where
+module _ (rows : List ℕ) (n : ℕ) (numbers : List ℕ) (e : decision rows n ≡ accepted numbers) where
   pub joined-few : length numbers ≤ 255
   joined-few = let d = decided rows n numbers e in omega (arith, few-of rows (d .end) numbers (d .are))
 

@@ -9,16 +9,17 @@ use native.Mathlib.Omega.{arith}
 use lib.Ieee.{Float, nan}
 use lib.ListN.{length, getD}
 use Rattle.item.specs.declared.ItemRow.{ItemRow}
-use Rattle.item.specs.Rows.{itemRow, isVisible, isListed}
-use Rattle.draw.specs.Items.{entriesOf, drawSource}
+use Rattle.command.specs.Outcomes.{Outcome, refused, accepted, andThen}
+use Rattle.item.specs.Rows.{itemRow, isVisible, isListed, entriesOf}
+use Rattle.draw.specs.Items.{drawSource}
 use Rattle.draw.proofs.Read.{source-read}
 use Rattle.nest.specs.Lists.{rowsFrom, eachRow}
 use Rattle.nest.proofs.Rows.{row-read}
 use Rattle.nest.proofs.Alike.{Alike, ends, goes}
-use Rattle.merge.specs.Decision.{Ruling, declined, joined, decision}
+use Rattle.merge.specs.Decision.{decision}
 use Rattle.merge.specs.Flat.{isSourceRow}
 use Rattle.merge.proofs.Alike.{decision-alike, decision-read}
-use Rattle.join.specs.Merge.{followedBy, drawSources, drawRuling, drawMerge}
+use Rattle.join.specs.Merge.{followedBy, drawSources, drawJoined, drawMerge}
 use Rattle.join.specs.Joined.{JoinedRow}
 use Rattle.join.proofs.Joined.{joined-below, joined-source}
 
@@ -36,12 +37,12 @@ sources-read rows items items' (m ∷ ms) same =
 pub merge-items : (rows : List ℕ) (n : ℕ) (items items' : List Float) → length items' ≡ length items
     → ((r : ItemRow) → JoinedRow rows n r → (j : ℕ) → r .place ≤ j → j < r .place + entriesOf r → j < length items → getD items' j nan ≡ getD items j nan)
     → drawMerge rows n items' ≡ drawMerge rows n items
-unfolding drawMerge drawRuling
+unfolding drawMerge drawJoined
 merge-items rows n items items' long same = go (decision rows n) refl
   where
-    go : (d : Ruling) → decision rows n ≡ d → drawRuling rows items' d ≡ drawRuling rows items d
-    go (declined r) e = refl
-    go (joined numbers) e =
+    go : (d : Outcome (List ℕ)) → decision rows n ≡ d → andThen d (drawJoined rows items') ≡ andThen d (drawJoined rows items)
+    go (refused r) e = refl
+    go (accepted numbers) e =
         sources-read rows items items' numbers
         (λ i h. let r : ItemRow = itemRow rows (getD numbers i 0) in source-read r items items' long (same r (record { numbers = numbers; decided = e; index = i; inside = h; is = refl })))
 
@@ -55,12 +56,12 @@ rows-same rows rows' (m ∷ ms) same = ap₂ _∷_ (same 0 (zero-lt-suc (length 
 -- one decision, and the same source rows
 same-merge : (rows rows' : List ℕ) (n : ℕ) (items : List Float) → decision rows n ≡ decision rows' n
     → ((i : ℕ) → i < n → isSourceRow (itemRow rows i) ≡ true → itemRow rows i ≡ itemRow rows' i) → drawMerge rows n items ≡ drawMerge rows' n items
-unfolding drawMerge drawRuling
-same-merge rows rows' n items e same = go (decision rows n) refl ∙ ap (drawRuling rows' items) e
+unfolding drawMerge drawJoined
+same-merge rows rows' n items e same = go (decision rows n) refl ∙ ap (λ (d : Outcome (List ℕ)). andThen d (drawJoined rows' items)) e
   where
-    go : (d : Ruling) → decision rows n ≡ d → drawRuling rows items d ≡ drawRuling rows' items d
-    go (declined r) f = refl
-    go (joined numbers) f =
+    go : (d : Outcome (List ℕ)) → decision rows n ≡ d → andThen d (drawJoined rows items) ≡ andThen d (drawJoined rows' items)
+    go (refused r) f = refl
+    go (accepted numbers) f =
         ap (λ (rs : List ItemRow). drawSources rs items)
         (rows-same rows rows' numbers
         (λ i h. let m : ℕ = getD numbers i 0 in same m (joined-below rows n numbers f i h) (joined-source rows n numbers f i h)))

@@ -1,6 +1,6 @@
 -- What each way out of a function of this crate owes, as the code meets it: a premise for each test and for each call's result.
 -- Assumes nothing.
-use mathlib.Core.Path.{_≡_, refl, sym, ap, ap₂, _∙_}
+use mathlib.Core.Path.{_≡_, refl, sym, ap, _∙_}
 use mathlib.Core.Bool.{Bool, true, false, cond}
 use mathlib.Core.List.{List, [], _∷_, _++_, map}
 use Prim.Native.Nat.{ℕ, zero, suc, _+_, _-_, _*_, _^_, _≤_, _<_, zero-le}
@@ -15,21 +15,23 @@ use borrow.Author.Tests.{lt-leb, le-leb}
 use Rattle.command.specs.declared.PathCommand.{PathCommand}
 use Rattle.command.specs.declared.Refusal.{Refusal}
 use Rattle.command.specs.declared.Refusal.the-variants.{BufferTooSmall}
-use Rattle.command.specs.declared.Drawn.{Drawn}
+use Rattle.command.specs.declared.Counts.{Counts}
+use Rattle.command.specs.declared.Counts.the-variants.{Refused, Of}
 use Rattle.command.specs.Commands.{codesOf, numbersOf}
 use Rattle.command.specs.Refusals.{refusalNumber}
-use Rattle.command.specs.Outcomes.{Outcome, Filled, refused, drawn, fitted, commandsOf, drawnNumber, drawnCodes, drawnNumbers}
-use Rattle.command.specs.Needs.{needOf}
+use Rattle.command.specs.Outcomes.{Outcome, refused, accepted, mapped, valueOr, listOf, countsOf, countsNumber, firstCount, secondCount}
+use Rattle.command.specs.Buffers.{inBuffers, fitted, FilledBoth, roomOf}
+use Rattle.command.proofs.Outcomes.{refused-accepted}
 use Rattle.command.proofs.Passes.{codes-length, codes-append, numbers-append}
-use Rattle.command.proofs.Buffers.{sets-append, sets-onto, unfilled}
+use Rattle.command.proofs.Buffers.{sets-append, fitted-accepted, fitted-refused, filled, both-unfilled}
 use Rattle.shape.specs.declared.Shape.{Shape}
-use Rattle.shape.specs.Shape.{shapeCommands, Fit}
+use Rattle.shape.specs.Shape.{shapeCommands}
 use Rattle.item.specs.declared.ItemRow.{ItemRow}
-use Rattle.item.specs.Rows.{itemRow}
+use Rattle.item.specs.Rows.{itemRow, entriesOf}
 use Rattle.draw.specs.declared.Checked.{Checked}
 use Rattle.draw.specs.declared.Checked.the-variants.{Fault, Sound}
 use Rattle.draw.specs.Checks.{outcomeOf}
-use Rattle.draw.specs.Items.{entriesOf, itemShape, drawSource}
+use Rattle.draw.specs.Items.{hasNoVertices, shapeDrawn, drawSource}
 use Rattle.draw.proofs.Ways.{sound-place, sound-fit, tail}
 use Rattle.draw.proofs.Sources.{DrawnSource, drawn-source, source-few, source-numbers-few}
 use Rattle.nest.specs.Lists.{rowsFrom}
@@ -38,101 +40,89 @@ use Rattle.merge.specs.declared.Decision.{Decision}
 use Rattle.merge.specs.declared.Decision.the-variants as Merge
 use Rattle.merge.specs.Flat.{isSourceRow, sourcesFrom}
 use Rattle.merge.specs.Decision.{said, decision, Settled}
-use Rattle.command.specs.declared.Need.{Need}
-use Rattle.command.specs.declared.Need.the-variants.{Refused, Room}
-use Rattle.join.specs.Merge.{followedBy, drawSources, drawRuling, drawMerge}
-use Rattle.join.specs.Sources.{isDrawn, drawRow, drawRows, needAfter}
-
--- ---- shape_need
-pub shape-room : (cs : List PathCommand) (c n : ℕ) → c ≡ length cs → n ≡ length (numbersOf cs) → Room c n ≡ needOf (drawn cs)
-unfolding needOf
-shape-room cs c n e f = ap₂ Room (e ∙ sym (codes-length cs)) f
-
--- ---- source_need
-module _ (k : Checked) (row : ItemRow) (items : List Float) (is : outcomeOf k items ≡ drawSource row items) where
-  pub fault-need : (r : Refusal) → k ≡ Fault r → Refused r ≡ needOf (drawSource row items)
-  unfolding needOf outcomeOf
-  fault-need r e = rw (← is, e)
-
-  pub sound-need : (place : ℕ) (s : Shape) (r : Need) → k ≡ Sound place s
-      → r ≡ needOf (drawn (shapeCommands s (take (length items - place) (drop place items)))) → r ≡ needOf (drawSource row items)
-  unfolding outcomeOf
-  sound-need place s r e f = f ∙ rw (tail items place, ← is, e)
-
-pub ruleset source-needs = (shape-room, fault-need, sound-need, sound-place, sound-fit)
+use Rattle.join.specs.Merge.{followedBy, drawSources, drawJoined, drawMerge}
+use Rattle.join.specs.Sources.{isAccepted, drawRow, drawRows, needAfter}
 
 -- ---- row_need
+-- the codes and numbers that a drawing needs
+abbrev needOf : Outcome (List PathCommand) → Outcome (ℕ × ℕ)
+needOf o = mapped roomOf o
+
 module _ (row : ItemRow) (items : List Float) (t : Bool) (is : t ≡ isSourceRow row) where
   pub row-source : t ≡ true → drawRow row items ≡ drawSource row items
   unfolding drawRow
   row-source h = rw (← is, h)
 
-  pub row-other : t ≡ false → drawRow row items ≡ drawn []
+  pub row-other : t ≡ false → drawRow row items ≡ accepted []
   unfolding drawRow
   row-other h = rw (← is, h)
 
-  pub need-of-source : (r : Need) → t ≡ true → r ≡ needOf (drawSource row items) → r ≡ needOf (drawRow row items)
+  pub need-of-source : (r : Counts) → t ≡ true → countsOf r ≡ needOf (drawSource row items) → countsOf r ≡ needOf (drawRow row items)
   need-of-source r h e = e ∙ ap needOf (sym (row-source h))
 
-  pub need-of-other : t ≡ false → Room 0 0 ≡ needOf (drawRow row items)
-  unfolding needOf
+  pub need-of-other : t ≡ false → countsOf (Of 0 0) ≡ needOf (drawRow row items)
   need-of-other h = rw (row-other h)
 
 pub ruleset row-needs = (need-of-source, need-of-other)
 
 -- ---- one drawing after another
-abbrev pub codesIn : Outcome → List ℕ
-codesIn o = codesOf (commandsOf o)
+abbrev pub codesIn : Outcome (List PathCommand) → List ℕ
+codesIn o = codesOf (listOf o)
 
-abbrev pub numbersIn : Outcome → List Float
-numbersIn o = numbersOf (commandsOf o)
+abbrev pub numbersIn : Outcome (List PathCommand) → List Float
+numbersIn o = numbersOf (listOf o)
 
-need-refused : (o p : Outcome) (r : Refusal) → Refused r ≡ needOf o → needOf (followedBy o p) ≡ Refused r
-unfolding needOf followedBy
+need-refused : (o p : Outcome (List PathCommand)) (r : Refusal) → refused r ≡ needOf o → needOf (followedBy o p) ≡ refused r
+unfolding followedBy
 need-refused (refused q) p r e = sym e
-need-refused (drawn cs) p r e = cc
+need-refused (accepted cs) p r e = refused-accepted r (roomOf cs) e
 
-need-room : (o p : Outcome) (c n : ℕ) → Room c n ≡ needOf o → needOf (followedBy o p) ≡ needAfter c n (needOf p)
-unfolding needOf followedBy needAfter
-need-room (refused q) p c n e = cc
-need-room (drawn cs) (refused r) c n e = refl
-need-room (drawn cs) (drawn ds) c n e =
-    let x : c ≡ length (codesOf cs) = cc in
-    let y : n ≡ length (numbersOf cs) = cc in
-    ap₂ Room
-    (ap length (codes-append cs ds) ∙ length-append (codesOf cs) (codesOf ds) ∙ ap (λ (k : ℕ). k + length (codesOf ds)) (sym x))
-    (ap length (numbers-append cs ds) ∙ length-append (numbersOf cs) (numbersOf ds) ∙ ap (λ (k : ℕ). k + length (numbersOf ds)) (sym y))
+-- what a need that is told says of the drawing
+need-told : (o : Outcome (List PathCommand)) (c n : ℕ) → countsOf (Of c n) ≡ needOf o → (o ≡ accepted (listOf o)) × (c ≡ length (codesIn o)) × (n ≡ length (numbersIn o))
+need-told (refused q) c n e = refused-accepted q (c, n) (sym e)
+need-told (accepted cs) c n e =
+    (refl, ap (λ (x : Outcome (ℕ × ℕ)). valueOr c (mapped (λ (k : ℕ × ℕ). k .0) x)) e, ap (λ (x : Outcome (ℕ × ℕ)). valueOr n (mapped (λ (k : ℕ × ℕ). k .1) x)) e)
 
-after-after : (a b c d : ℕ) (x : Need) → needAfter a b (needAfter c d x) ≡ needAfter (a + c) (b + d) x
+need-room : (o p : Outcome (List PathCommand)) (c n : ℕ) → countsOf (Of c n) ≡ needOf o → needOf (followedBy o p) ≡ needAfter c n (needOf p)
+unfolding followedBy needAfter
+need-room (refused q) p c n e = refused-accepted q (c, n) (sym e)
+need-room (accepted cs) (refused r) c n e = refl
+need-room (accepted cs) (accepted ds) c n e =
+    let s = need-told (accepted cs) c n e in
+    let a : length (codesOf (cs ++ ds)) ≡ c + length (codesOf ds) =
+    ap length (codes-append cs ds) ∙ length-append (codesOf cs) (codesOf ds) ∙ ap (λ (k : ℕ). k + length (codesOf ds)) (sym (s .1)) in
+    let b : length (numbersOf (cs ++ ds)) ≡ n + length (numbersOf ds) =
+    ap length (numbers-append cs ds) ∙ length-append (numbersOf cs) (numbersOf ds) ∙ ap (λ (k : ℕ). k + length (numbersOf ds)) (sym (s .2)) in
+    (λ i. countsOf (Of (a i) (b i)))
+
+after-after : (a b c d : ℕ) (x : Outcome (ℕ × ℕ)) → needAfter a b (needAfter c d x) ≡ needAfter (a + c) (b + d) x
 unfolding needAfter
-after-after a b c d (Refused r) = refl
-after-after a b c d (Room m n) = ap₂ Room (omega arith) (omega arith)
+after-after a b c d (refused r) = refl
+after-after a b c d (accepted m) =
+    let e : a + (c + m .0) ≡ a + c + m .0 = omega arith in
+    let f : b + (d + m .1) ≡ b + d + m .1 = omega arith in
+    (λ i. countsOf (Of (e i) (f i)))
 
-after-none : (x : Need) → needAfter 0 0 x ≡ x
+after-none : (x : Outcome (ℕ × ℕ)) → needAfter 0 0 x ≡ x
 unfolding needAfter
-after-none (Refused r) = refl
-after-none (Room m n) = ap₂ Room (zero-add m) (zero-add n)
+after-none (refused r) = refl
+after-none (accepted m) = λ i. countsOf (Of (zero-add (m .0) i) (zero-add (m .1) i))
 
 -- ---- rows_need
 
 -- a row has at most 1,026 commands of at most 6 numbers
-row-few : (row : ItemRow) (items : List Float) (c n : ℕ) → Room c n ≡ needOf (drawRow row items) → (c ≤ 1026) × (n ≤ 6156)
-unfolding drawRow needOf
+row-few : (row : ItemRow) (items : List Float) (c n : ℕ) → countsOf (Of c n) ≡ needOf (drawRow row items) → (c ≤ 1026) × (n ≤ 6156)
+unfolding drawRow
 row-few row items c n = go (isSourceRow row)
   where
-    drawn-few : (o : Outcome) → o ≡ drawSource row items → Room c n ≡ needOf o → (c ≤ 1026) × (n ≤ 6156)
-    drawn-few (refused r) e f = let z : _≡_ {A = ℕ} 0 1 = cc in (omega arith, omega arith)
-    drawn-few (drawn cs) e f =
-        let x : c ≡ length (codesOf cs) = cc in
-        let y : n ≡ length (numbersOf cs) = cc in
-        (omega (arith, codes-length cs, source-few row items cs (sym e)), omega (arith, source-numbers-few row items cs (sym e)))
-
-    go : (b : Bool) → Room c n ≡ needOf (cond b (drawSource row items) (drawn [])) → (c ≤ 1026) × (n ≤ 6156)
-    go true f = drawn-few (drawSource row items) refl f
+    go : (b : Bool) → countsOf (Of c n) ≡ needOf (cond b (drawSource row items) (accepted [])) → (c ≤ 1026) × (n ≤ 6156)
+    go true f =
+        let s = need-told (drawSource row items) c n f in
+        let cs = listOf (drawSource row items) in
+        (omega (arith, s .1, codes-length cs, source-few row items cs (s .0)), omega (arith, s .2, source-numbers-few row items cs (s .0)))
     go false f =
-        let x : c ≡ 0 = cc in
-        let y : n ≡ 0 = cc in
-        (omega arith, omega arith)
+        let s = need-told (accepted []) c n f in
+        (omega (arith, s .1), omega (arith, s .2))
 
 -- the need of the rows from i on, after that of the rows before
 pub record Needing (rows : List ℕ) (m : ℕ) (items : List Float) (codes numbers i : ℕ) : Type 0 where
@@ -154,7 +144,7 @@ module _ (rows : List ℕ) (m : ℕ) (items : List Float) where
   unfolding drawRows
   rows-split i h = rw (rest-step rows i m h)
 
-  rows-over : (i : ℕ) → m ≤ i → drawRows (rowsFrom rows i (m - i)) items ≡ drawn []
+  rows-over : (i : ℕ) → m ≤ i → drawRows (rowsFrom rows i (m - i)) items ≡ accepted []
   unfolding drawRows
   rows-over i h = rw (rest-none rows i m h)
 
@@ -162,18 +152,29 @@ module _ (rows : List ℕ) (m : ℕ) (items : List Float) where
     pub row-inside : i < m → m ≤ 256 → 6 * m ≤ length rows → 6 * i + 6 ≤ length rows
     row-inside h few inside = omega arith
 
-    module _ (h : i < m) (row : ItemRow) (row-is : row ≡ itemRow rows i) (need : Need) (need-is : need ≡ needOf (drawRow row items)) where
-      need-at : need ≡ needOf (drawRow (itemRow rows i) items)
+    module _ (h : i < m) (row : ItemRow) (row-is : row ≡ itemRow rows i) (need : Counts) (need-is : countsOf need ≡ needOf (drawRow row items)) where
+      abbrev here : Outcome (List PathCommand)
+      here = drawRow (itemRow rows i) items
+
+      abbrev later : Outcome (List PathCommand)
+      later = drawRows (rowsFrom rows (i + 1) (m - (i + 1))) items
+
+      need-at : countsOf need ≡ needOf here
       need-at = need-is ∙ ap (λ (r : ItemRow). needOf (drawRow r items)) row-is
 
-      pub needing-refused : (r : Refusal) → need ≡ Refused r → Refused r ≡ needOf (drawRows (rowsFrom rows 0 m) items)
-      unfolding needAfter
-      needing-refused r e =
-          sym (sym (w .rest) ∙ ap (λ (o : Outcome). needAfter codes numbers (needOf o)) (rows-split i h) ∙ ap (needAfter codes numbers) (need-refused (drawRow (itemRow rows i) items) (drawRows (rowsFrom rows (i + 1) (m - (i + 1))) items) r (sym e ∙ need-at)))
+      split-need : needAfter codes numbers (needOf (followedBy here later)) ≡ needOf (drawRows (rowsFrom rows 0 m) items)
+      split-need = ap (λ (o : Outcome (List PathCommand)). needAfter codes numbers (needOf o)) (sym (rows-split i h)) ∙ w .rest
 
-      module _ (c n : ℕ) (e : need ≡ Room c n) where
+      pub needing-refused : (r : Refusal) → need ≡ Refused r → refused r ≡ needOf (drawRows (rowsFrom rows 0 m) items)
+      unfolding needAfter
+      needing-refused r e = sym (ap (needAfter codes numbers) (need-refused here later r (sym (ap countsOf e) ∙ need-at))) ∙ split-need
+
+      module _ (c n : ℕ) (e : need ≡ Of c n) where
+        told : countsOf (Of c n) ≡ needOf here
+        told = sym (ap countsOf e) ∙ need-at
+
         few : (c ≤ 1026) × (n ≤ 6156)
-        few = row-few (itemRow rows i) items c n (sym e ∙ need-at)
+        few = row-few (itemRow rows i) items c n told
 
         pub codes-fit : m ≤ 256 → Fits w64 (codes + c)
         codes-fit small = record { fits = omega (arith, few .0) }
@@ -184,70 +185,80 @@ module _ (rows : List ℕ) (m : ℕ) (items : List Float) where
         pub needing-more : Needing rows m items (codes + c) (numbers + n) (i + 1)
         needing-more = record {
           inside = omega arith;
-          rest =
-              sym (after-after codes numbers c n _)
-              ∙ ap (needAfter codes numbers) (sym (need-room (drawRow (itemRow rows i) items) (drawRows (rowsFrom rows (i + 1) (m - (i + 1))) items) c n (sym e ∙ need-at)))
-              ∙ ap (λ (o : Outcome). needAfter codes numbers (needOf o)) (sym (rows-split i h))
-              ∙ w .rest;
+          rest = sym (after-after codes numbers c n _) ∙ ap (needAfter codes numbers) (sym (need-room here later c n told)) ∙ split-need;
           few-codes = omega (arith, few .0);
           few-numbers = omega (arith, few .1);
         }
 
-    pub needing-end : m ≤ i → Room codes numbers ≡ needOf (drawRows (rowsFrom rows 0 m) items)
-    unfolding needOf needAfter
-    needing-end h = sym (sym (w .rest) ∙ ap (λ (o : Outcome). needAfter codes numbers (needOf o)) (rows-over i h) ∙ ap₂ Room (add-zero codes) (add-zero numbers))
+    pub needing-end : m ≤ i → countsOf (Of codes numbers) ≡ needOf (drawRows (rowsFrom rows 0 m) items)
+    unfolding needAfter
+    needing-end h =
+        sym (λ k. countsOf (Of (add-zero codes k) (add-zero numbers k)))
+        ∙ ap (λ (o : Outcome (List PathCommand)). needAfter codes numbers (needOf o)) (sym (rows-over i h))
+        ∙ w .rest
 
 pub ruleset rows-needs = (needing-start, row-inside, needing-refused, codes-fit, numbers-fit, needing-more, needing-end)
 
 -- ---- write_row
-drawn-is : (o : Outcome) → isDrawn o ≡ true → o ≡ drawn (commandsOf o)
+drawn-is : (o : Outcome (List PathCommand)) → isAccepted o ≡ true → o ≡ accepted (listOf o)
 drawn-is (refused r) e = let z : _≡_ {A = ℕ} 0 1 = cc in absurd (omega arith)
-drawn-is (drawn cs) e = refl
+drawn-is (accepted cs) e = refl
 
-module _ (row : ItemRow) (items : List Float) (t : Bool) (is : t ≡ isSourceRow row) (drawn-row : isDrawn (drawRow row items) ≡ true) where
+module _ (row : ItemRow) (items : List Float) (t : Bool) (is : t ≡ isSourceRow row) (drawn-row : isAccepted (drawRow row items) ≡ true) where
   module _ (h : t ≡ true) where
-    row-met : DrawnSource row items (commandsOf (drawRow row items))
-    row-met = drawn-source row items (commandsOf (drawRow row items)) (sym (row-source row items t is h) ∙ drawn-is (drawRow row items) drawn-row)
+    row-met : DrawnSource row items (listOf (drawRow row items))
+    row-met = drawn-source row items (listOf (drawRow row items)) (sym (row-source row items t is h) ∙ drawn-is (drawRow row items) drawn-row)
+
+    pub row-some : hasNoVertices row ≡ false
+    row-some = row-met .passed .some
+
+    pub row-count : row .count ≤ 1024
+    row-count = row-met .passed .few
 
     pub row-entries : row .place + entriesOf row ≤ length items
-    row-entries = row-met .inside
+    row-entries = row-met .passed .inside
 
-    pub row-place : row .place ≤ length items
-    row-place = row-met .place-inside
+    -- the shape that is made draws what the row draws
+    module _ (k : Checked) (k-is : outcomeOf k items ≡ shapeDrawn row (drop (row .place) items)) where
+      row-drawn-as : outcomeOf k items ≡ accepted (listOf (drawRow row items))
+      row-drawn-as = k-is ∙ row-met .drawn
 
-    module _ (s : Shape) (s-is : s ≡ itemShape row (drop (row .place) items)) where
-      abbrev part : List Float
-      part = take (length items - row .place) (drop (row .place) items)
+      pub row-not-refused : (r : Refusal) → k ≡ Fault r → {A : Type 0} → A
+      unfolding outcomeOf
+      row-not-refused r e = refused-accepted r (listOf (drawRow row items)) (ap (λ (x : Checked). outcomeOf x items) (sym e) ∙ row-drawn-as)
 
-      pub row-fit : Fit s part
-      row-fit = rw (tail items (row .place), s-is) (row-met .fits)
+      module _ (place : ℕ) (s : Shape) (e : k ≡ Sound place s) where
+        abbrev part : List Float
+        part = take (length items - place) (drop place items)
 
-      row-commands : shapeCommands s part ≡ commandsOf (drawRow row items)
-      row-commands = rw (tail items (row .place), s-is) (sym (row-met .commands))
+        row-commands : shapeCommands s part ≡ listOf (drawRow row items)
+        unfolding outcomeOf
+        row-commands = ap (shapeCommands s) (tail items place) ∙ ap listOf (ap (λ (x : Checked). outcomeOf x items) (sym e) ∙ row-drawn-as)
 
-      pub row-codes-room : (i n : ℕ) → i + length (codesIn (drawRow row items)) ≤ n → i + length (codesOf (shapeCommands s part)) ≤ n
-      row-codes-room i n room = rw row-commands room
+        pub row-codes-room : (i n : ℕ) → i + length (codesIn (drawRow row items)) ≤ n → i + length (codesOf (shapeCommands s part)) ≤ n
+        row-codes-room i n room = rw row-commands room
 
-      pub row-numbers-room : (j n : ℕ) → j + length (numbersIn (drawRow row items)) ≤ n → j + length (numbersOf (shapeCommands s part)) ≤ n
-      row-numbers-room j n room = rw row-commands room
+        pub row-numbers-room : (j n : ℕ) → j + length (numbersIn (drawRow row items)) ≤ n → j + length (numbersOf (shapeCommands s part)) ≤ n
+        row-numbers-room j n room = rw row-commands room
 
-      pub row-codes-after : (i n : ℕ) → n ≡ length (shapeCommands s part) → i + n ≡ i + length (codesIn (drawRow row items))
-      row-codes-after i n e = ap (λ (k : ℕ). i + k) (e ∙ ap length row-commands ∙ sym (codes-length (commandsOf (drawRow row items))))
+        pub row-codes-after : (i n : ℕ) → n ≡ length (shapeCommands s part) → i + n ≡ i + length (codesIn (drawRow row items))
+        row-codes-after i n e = ap (λ (k : ℕ). i + k) (e ∙ ap length row-commands ∙ sym (codes-length (listOf (drawRow row items))))
 
-      pub row-place-fits : (i n room : ℕ) → n ≡ length (shapeCommands s part) → i + length (codesIn (drawRow row items)) ≤ room → room < 2 ^ 64 → Fits w64 (i + n)
-      row-place-fits i n room e h g = record { fits = omega (arith, row-codes-after i n e) }
+        pub row-place-fits : (i n room : ℕ) → n ≡ length (shapeCommands s part) → i + length (codesIn (drawRow row items)) ≤ room → room < 2 ^ 64 → Fits w64 (i + n)
+        row-place-fits i n room e h g = record { fits = omega (arith, row-codes-after i n e) }
 
-      pub row-numbers-after : (j r : ℕ) → r ≡ j + length (numbersOf (shapeCommands s part)) → r ≡ j + length (numbersIn (drawRow row items))
-      row-numbers-after j r e = e ∙ ap (λ (cs : List PathCommand). j + length (numbersOf cs)) row-commands
+        pub row-numbers-after : (j r : ℕ) → r ≡ j + length (numbersOf (shapeCommands s part)) → r ≡ j + length (numbersIn (drawRow row items))
+        row-numbers-after j r e = e ∙ ap (λ (cs : List PathCommand). j + length (numbersOf cs)) row-commands
 
-      pub row-codes-written : (codes codes' : List ℕ) (i : ℕ) → codes' ≡ sets codes i (codesOf (shapeCommands s part)) → codes' ≡ sets codes i (codesIn (drawRow row items))
-      row-codes-written codes codes' i e = e ∙ ap (λ (cs : List PathCommand). sets codes i (codesOf cs)) row-commands
+        pub row-codes-written : (codes codes' : List ℕ) (i : ℕ) → codes' ≡ sets codes i (codesOf (shapeCommands s part)) → codes' ≡ sets codes i (codesIn (drawRow row items))
+        row-codes-written codes codes' i e = e ∙ ap (λ (cs : List PathCommand). sets codes i (codesOf cs)) row-commands
 
-      pub row-numbers-written : (numbers numbers' : List Float) (j : ℕ) → numbers' ≡ sets numbers j (numbersOf (shapeCommands s part)) → numbers' ≡ sets numbers j (numbersIn (drawRow row items))
-      row-numbers-written numbers numbers' j e = e ∙ ap (λ (cs : List PathCommand). sets numbers j (numbersOf cs)) row-commands
+        pub row-numbers-written : (numbers numbers' : List Float) (j : ℕ) → numbers' ≡ sets numbers j (numbersOf (shapeCommands s part))
+            → numbers' ≡ sets numbers j (numbersIn (drawRow row items))
+        row-numbers-written numbers numbers' j e = e ∙ ap (λ (cs : List PathCommand). sets numbers j (numbersOf cs)) row-commands
 
   module _ (h : t ≡ false) where
-    no-commands : commandsOf (drawRow row items) ≡ []
+    no-commands : listOf (drawRow row items) ≡ []
     no-commands = rw (row-other row items t is h)
 
     pub no-codes-after : (i : ℕ) → i ≡ i + length (codesIn (drawRow row items))
@@ -263,9 +274,12 @@ module _ (row : ItemRow) (items : List Float) (t : Bool) (is : t ≡ isSourceRow
     no-numbers-written numbers j = rw no-commands
 
 pub ruleset row-writes = (
+  row-some,
+  row-count,
   row-entries,
-  row-place,
-  row-fit,
+  row-not-refused,
+  sound-place,
+  sound-fit,
   row-codes-room,
   row-numbers-room,
   row-codes-after,
@@ -282,21 +296,21 @@ pub ruleset row-writes = (
 -- ---- write_rows
 
 -- what is drawn in two parts
-record Parts (o p : Outcome) : Type 0 where
-  first : isDrawn o ≡ true
-  second : isDrawn p ≡ true
-  both : commandsOf (followedBy o p) ≡ commandsOf o ++ commandsOf p
+record Parts (o p : Outcome (List PathCommand)) : Type 0 where
+  first : isAccepted o ≡ true
+  second : isAccepted p ≡ true
+  both : listOf (followedBy o p) ≡ listOf o ++ listOf p
 
-parts : (o p : Outcome) → isDrawn (followedBy o p) ≡ true → Parts o p
+parts : (o p : Outcome (List PathCommand)) → isAccepted (followedBy o p) ≡ true → Parts o p
 unfolding followedBy
 parts (refused r) p e = let z : _≡_ {A = ℕ} 0 1 = cc in absurd (omega arith)
-parts (drawn cs) (refused r) e = let z : _≡_ {A = ℕ} 0 1 = cc in absurd (omega arith)
-parts (drawn cs) (drawn ds) e = record { first = refl; second = refl; both = refl }
+parts (accepted cs) (refused r) e = let z : _≡_ {A = ℕ} 0 1 = cc in absurd (omega arith)
+parts (accepted cs) (accepted ds) e = record { first = refl; second = refl; both = refl }
 
 -- The rows from i on, written on the buffers as they are, give what all rows give on the buffers as they were.
 pub record Joining (rows : List ℕ) (m : ℕ) (items : List Float) (codes₀ : List ℕ) (numbers₀ : List Float) (codes : List ℕ) (numbers : List Float) (at to i : ℕ) : Type 0 where
   pub inside : i ≤ m
-  pub drawn-rest : isDrawn (drawRows (rowsFrom rows i (m - i)) items) ≡ true
+  pub drawn-rest : isAccepted (drawRows (rowsFrom rows i (m - i)) items) ≡ true
   pub codes-last : sets codes at (codesIn (drawRows (rowsFrom rows i (m - i)) items)) ≡ sets codes₀ 0 (codesIn (drawRows (rowsFrom rows 0 m) items))
   pub numbers-last : sets numbers to (numbersIn (drawRows (rowsFrom rows i (m - i)) items)) ≡ sets numbers₀ 0 (numbersIn (drawRows (rowsFrom rows 0 m) items))
   pub codes-room : at + length (codesIn (drawRows (rowsFrom rows i (m - i)) items)) ≤ length codes
@@ -305,7 +319,7 @@ pub record Joining (rows : List ℕ) (m : ℕ) (items : List Float) (codes₀ : 
   pub numbers-same : length numbers ≡ length numbers₀
 
 module _ (rows : List ℕ) (m : ℕ) (items : List Float) (codes₀ : List ℕ) (numbers₀ : List Float) where
-  pub joining-start : isDrawn (drawRows (rowsFrom rows 0 m) items) ≡ true → length (codesIn (drawRows (rowsFrom rows 0 m) items)) ≤ length codes₀
+  pub joining-start : isAccepted (drawRows (rowsFrom rows 0 m) items) ≡ true → length (codesIn (drawRows (rowsFrom rows 0 m) items)) ≤ length codes₀
       → length (numbersIn (drawRows (rowsFrom rows 0 m) items)) ≤ length numbers₀ → Joining rows m items codes₀ numbers₀ codes₀ numbers₀ 0 0 0
   joining-start e h g = record {
     inside = zero-le;
@@ -329,7 +343,7 @@ module _ (rows : List ℕ) (m : ℕ) (items : List Float) (codes₀ : List ℕ) 
     numbers-joined h = rw (rows-over rows m items i h) at (w .numbers-last)
 
     module _ (h : i < m) (row : ItemRow) (row-is : row ≡ itemRow rows i) where
-      abbrev rest : Outcome
+      abbrev rest : Outcome (List PathCommand)
       rest = drawRows (rowsFrom rows (i + 1) (m - (i + 1))) items
 
       rest-is : drawRows (rowsFrom rows i (m - i)) items ≡ followedBy (drawRow row items) rest
@@ -339,10 +353,10 @@ module _ (rows : List ℕ) (m : ℕ) (items : List Float) (codes₀ : List ℕ) 
       two = parts (drawRow row items) rest (rw rest-is at (w .drawn-rest))
 
       codes-two : codesIn (drawRows (rowsFrom rows i (m - i)) items) ≡ codesIn (drawRow row items) ++ codesIn rest
-      codes-two = ap codesIn rest-is ∙ ap codesOf (two .both) ∙ codes-append (commandsOf (drawRow row items)) (commandsOf rest)
+      codes-two = ap codesIn rest-is ∙ ap codesOf (two .both) ∙ codes-append (listOf (drawRow row items)) (listOf rest)
 
       numbers-two : numbersIn (drawRows (rowsFrom rows i (m - i)) items) ≡ numbersIn (drawRow row items) ++ numbersIn rest
-      numbers-two = ap numbersIn rest-is ∙ ap numbersOf (two .both) ∙ numbers-append (commandsOf (drawRow row items)) (commandsOf rest)
+      numbers-two = ap numbersIn rest-is ∙ ap numbersOf (two .both) ∙ numbers-append (listOf (drawRow row items)) (listOf rest)
 
       codes-lengths : length (codesIn (drawRows (rowsFrom rows i (m - i)) items)) ≡ length (codesIn (drawRow row items)) + length (codesIn rest)
       codes-lengths = ap length codes-two ∙ length-append (codesIn (drawRow row items)) (codesIn rest)
@@ -350,7 +364,7 @@ module _ (rows : List ℕ) (m : ℕ) (items : List Float) (codes₀ : List ℕ) 
       numbers-lengths : length (numbersIn (drawRows (rowsFrom rows i (m - i)) items)) ≡ length (numbersIn (drawRow row items)) + length (numbersIn rest)
       numbers-lengths = ap length numbers-two ∙ length-append (numbersIn (drawRow row items)) (numbersIn rest)
 
-      pub row-drawn : isDrawn (drawRow row items) ≡ true
+      pub row-drawn : isAccepted (drawRow row items) ≡ true
       row-drawn = two .first
 
       pub codes-there : at + length (codesIn (drawRow row items)) ≤ length codes
@@ -382,71 +396,64 @@ module _ (rows : List ℕ) (m : ℕ) (items : List Float) (codes₀ : List ℕ) 
 pub ruleset rows-writes = (joining-start, row-there, codes-joined, numbers-joined, row-drawn, codes-there, numbers-there, joining-more)
 
 -- ---- join_rows
-module _ (o : Outcome) (codes : List ℕ) (numbers : List Float) (need : Need) (is : need ≡ needOf o) where
-  pub need-unfilled : (r : Refusal) → need ≡ Refused r → Filled (fitted (length codes) (length numbers) o) (refusalNumber r) 0 0 codes codes numbers numbers
-  unfolding fitted needOf
-  need-unfilled r e = go o (sym e ∙ is)
+module _ (o : Outcome (List PathCommand)) (codes : List ℕ) (numbers : List Float) (need : Counts) (is : countsOf need ≡ needOf o) where
+  abbrev fits : List PathCommand → Bool
+  fits = inBuffers (length codes) (length numbers)
+
+  pub need-unfilled : (r : Refusal) → need ≡ Refused r → FilledBoth (fitted fits o) (refusalNumber r) 0 0 codes codes numbers numbers
+  unfolding fitted
+  need-unfilled r e = go o (sym (ap countsOf e) ∙ is)
     where
-      go : (p : Outcome) → Refused r ≡ needOf p → Filled (fitted (length codes) (length numbers) p) (refusalNumber r) 0 0 codes codes numbers numbers
-      go (refused q) f = let x : r ≡ q = cc in rw x (unfilled q codes numbers)
-      go (drawn cs) f = let z : _≡_ {A = ℕ} 0 1 = cc in absurd (omega arith)
+      go : (p : Outcome (List PathCommand)) → refused r ≡ needOf p → FilledBoth (fitted fits p) (refusalNumber r) 0 0 codes codes numbers numbers
+      go (refused q) f = let x : r ≡ q = cc in rw x (both-unfilled q codes numbers)
+      go (accepted cs) f = refused-accepted r (roomOf cs) f
 
-  module _ (c n : ℕ) (e : need ≡ Room c n) where
-    room-is : (isDrawn o ≡ true) × (c ≡ length (codesIn o)) × (n ≡ length (numbersIn o))
-    unfolding needOf
-    room-is = go o (sym e ∙ is)
-      where
-        go : (p : Outcome) → Room c n ≡ needOf p → (isDrawn p ≡ true) × (c ≡ length (codesIn p)) × (n ≡ length (numbersIn p))
-        go (refused q) f = let z : _≡_ {A = ℕ} 0 1 = cc in absurd (omega arith)
-        go (drawn cs) f = (refl, cc, cc)
+  module _ (c n : ℕ) (e : need ≡ Of c n) where
+    told-here : (o ≡ accepted (listOf o)) × (c ≡ length (codesIn o)) × (n ≡ length (numbersIn o))
+    told-here = need-told o c n (sym (ap countsOf e) ∙ is)
 
-    pub need-drawn : isDrawn o ≡ true
-    need-drawn = room-is .0
+    pub need-drawn : isAccepted o ≡ true
+    need-drawn = rw (told-here .0)
 
-    drawn-here : o ≡ drawn (commandsOf o)
-    drawn-here = drawn-is o need-drawn
+    refused-by : fits (listOf o) ≡ false → FilledBoth (fitted fits o) 11 0 0 codes codes numbers numbers
+    refused-by e = rw (told-here .0) (rw (fitted-refused fits (listOf o) e) (both-unfilled BufferTooSmall codes numbers))
 
-    pub need-codes-short : length codes < c → Filled (fitted (length codes) (length numbers) o) 11 0 0 codes codes numbers numbers
-    unfolding fitted
-    need-codes-short h = rw drawn-here (rw (lt-leb (length (codesIn o)) (length codes) (omega (arith, room-is .1))) (unfilled BufferTooSmall codes numbers))
+    pub need-codes-short : length codes < c → FilledBoth (fitted fits o) 11 0 0 codes codes numbers numbers
+    need-codes-short h = refused-by (rw (lt-leb (length (codesIn o)) (length codes) (omega (arith, told-here .1))))
 
     module _ (h : c ≤ length codes) where
       pub need-codes-room : length (codesIn o) ≤ length codes
-      need-codes-room = omega (arith, room-is .1)
+      need-codes-room = omega (arith, told-here .1)
 
-      pub need-numbers-short : length numbers < n → Filled (fitted (length codes) (length numbers) o) 11 0 0 codes codes numbers numbers
-      unfolding fitted
+      pub need-numbers-short : length numbers < n → FilledBoth (fitted fits o) 11 0 0 codes codes numbers numbers
       need-numbers-short g =
-          rw drawn-here
-          (rw (le-leb (length (codesIn o)) (length codes) need-codes-room, lt-leb (length (numbersIn o)) (length numbers) (omega (arith, room-is .2)))
-          (unfilled BufferTooSmall codes numbers))
+          refused-by (rw (le-leb (length (codesIn o)) (length codes) need-codes-room, lt-leb (length (numbersIn o)) (length numbers) (omega (arith, told-here .2))))
 
       module _ (g : n ≤ length numbers) where
         pub need-numbers-room : length (numbersIn o) ≤ length numbers
-        need-numbers-room = omega (arith, room-is .2)
+        need-numbers-room = omega (arith, told-here .2)
+
+        fits-both : fits (listOf o) ≡ true
+        fits-both = rw (le-leb (length (codesIn o)) (length codes) need-codes-room, le-leb (length (numbersIn o)) (length numbers) need-numbers-room)
 
         pub need-written : (codes' : List ℕ) (numbers' : List Float) → codes' ≡ sets codes 0 (codesIn o) → numbers' ≡ sets numbers 0 (numbersIn o)
-            → Filled (fitted (length codes) (length numbers) o) 0 c n codes codes' numbers numbers'
-        unfolding fitted
+            → FilledBoth (fitted fits o) 0 c n codes codes' numbers numbers'
         need-written codes' numbers' p q =
-            rw drawn-here
-            (rw (le-leb (length (codesIn o)) (length codes) need-codes-room, le-leb (length (numbersIn o)) (length numbers) need-numbers-room)
+            rw (told-here .0)
+            (rw (fitted-accepted fits (listOf o) fits-both)
             (record {
-              number-is = refl;
-              codes-count = room-is .1;
-              numbers-count = room-is .2;
-              codes-filled = p ∙ sets-onto (codesIn o) codes need-codes-room;
-              numbers-filled = q ∙ sets-onto (numbersIn o) numbers need-numbers-room;
+              codes-filled = filled (codesIn o) codes codes' c need-codes-room (told-here .1) p;
+              numbers-filled = filled (numbersIn o) numbers numbers' n need-numbers-room (told-here .2) q;
             }))
 
 pub ruleset joins = (need-unfilled, need-drawn, need-codes-short, need-codes-room, need-numbers-short, need-numbers-room, need-written)
 
 -- ---- draw_merge
 
-nothing-first : (o : Outcome) → followedBy (drawn []) o ≡ o
+nothing-first : (o : Outcome (List PathCommand)) → followedBy (accepted []) o ≡ o
 unfolding followedBy
 nothing-first (refused r) = refl
-nothing-first (drawn cs) = refl
+nothing-first (accepted cs) = refl
 
 -- the sources that the rows name are drawn as the rows are
 pub sources-drawn : (rows : List ℕ) (items : List Float) (i left : ℕ)
@@ -457,19 +464,22 @@ sources-drawn rows items i (suc left) = go (isSourceRow (itemRow rows i)) (sourc
   where
     go : (b : Bool) → drawSources (map (itemRow rows) (sourcesFrom (i + 1) (rowsFrom rows (i + 1) left))) items ≡ drawRows (rowsFrom rows (i + 1) left) items
         → drawSources (map (itemRow rows) (cond b (i ∷ sourcesFrom (i + 1) (rowsFrom rows (i + 1) left)) (sourcesFrom (i + 1) (rowsFrom rows (i + 1) left)))) items
-        ≡ followedBy (cond b (drawSource (itemRow rows i) items) (drawn [])) (drawRows (rowsFrom rows (i + 1) left) items)
+        ≡ followedBy (cond b (drawSource (itemRow rows i) items) (accepted [])) (drawRows (rowsFrom rows (i + 1) left) items)
     go true e = ap (followedBy (drawSource (itemRow rows i) items)) e
     go false e = e ∙ sym (nothing-first (drawRows (rowsFrom rows (i + 1) left) items))
 
 module _ (rows : List ℕ) (n : ℕ) (items : List Float) (k : Decision) (is : said rows k ≡ decision rows n) where
+  abbrev merged : Outcome (List PathCommand)
+  merged = drawMerge rows n items
+
   pub merge-refused : (codes : List ℕ) (numbers : List Float) (r : Refusal) → k ≡ Merge.Refused r
-      → Filled (fitted (length codes) (length numbers) (drawMerge rows n items)) (refusalNumber r) 0 0 codes codes numbers numbers
-  unfolding drawMerge drawRuling said fitted
-  merge-refused codes numbers r e = rw (← is, e) (unfilled r codes numbers)
+      → FilledBoth (fitted (inBuffers (length codes) (length numbers)) merged) (refusalNumber r) 0 0 codes codes numbers numbers
+  unfolding drawMerge said fitted
+  merge-refused codes numbers r e = rw (← is, e) (both-unfilled r codes numbers)
 
   module _ (m : ℕ) (e : k ≡ Merge.Joined m) where
-    joined-is : drawRows (rowsFrom rows 0 m) items ≡ drawMerge rows n items
-    unfolding drawMerge drawRuling said
+    joined-is : drawRows (rowsFrom rows 0 m) items ≡ merged
+    unfolding drawMerge drawJoined said
     joined-is = rw (← is, e) (sym (sources-drawn rows items 0 m))
 
     joined-settled : Settled rows k → (m ≤ 256) × (6 * m ≤ length rows)
@@ -481,9 +491,9 @@ module _ (rows : List ℕ) (n : ℕ) (items : List Float) (k : Decision) (is : s
     pub merge-inside : Settled rows k → 6 * m ≤ length rows
     merge-inside s = joined-settled s .1
 
-    pub merge-joined : (codes codes' : List ℕ) (numbers numbers' : List Float) (r : Drawn)
-        → Filled (fitted (length codes) (length numbers) (drawRows (rowsFrom rows 0 m) items)) (drawnNumber r) (drawnCodes r) (drawnNumbers r) codes codes' numbers numbers'
-        → Filled (fitted (length codes) (length numbers) (drawMerge rows n items)) (drawnNumber r) (drawnCodes r) (drawnNumbers r) codes codes' numbers numbers'
+    pub merge-joined : (codes codes' : List ℕ) (numbers numbers' : List Float) (r : Counts)
+        → FilledBoth (fitted (inBuffers (length codes) (length numbers)) (drawRows (rowsFrom rows 0 m) items)) (countsNumber r) (firstCount r) (secondCount r) codes codes' numbers numbers'
+        → FilledBoth (fitted (inBuffers (length codes) (length numbers)) merged) (countsNumber r) (firstCount r) (secondCount r) codes codes' numbers numbers'
     merge-joined codes codes' numbers numbers' r f = rw (← joined-is) f
 
 pub ruleset merges = (merge-refused, merge-few, merge-inside, merge-joined)

@@ -3,29 +3,27 @@ use Prim.Native.Nat.{ℕ, _+_}
 use mathlib.Core.Bool.{Bool, true, false, cond}
 use mathlib.Core.List.{List, [], _∷_}
 use lib.Ieee.{Float}
-use Rattle.command.specs.Outcomes.{Outcome, refused, drawn}
+use Rattle.command.specs.declared.PathCommand.{PathCommand}
+use Rattle.command.specs.Outcomes.{Outcome, refused, accepted, mapped}
 use Rattle.item.specs.declared.ItemRow.{ItemRow}
 use Rattle.draw.specs.Items.{drawSource}
 use Rattle.merge.specs.Flat.{isSourceRow}
-use Rattle.command.specs.declared.Need.{Need}
-use Rattle.command.specs.declared.Need.the-variants.{Refused, Room}
 use Rattle.join.specs.Merge.{followedBy}
 
-abbrev pub isDrawn : Outcome → Bool
-isDrawn (refused r) = false
-isDrawn (drawn cs) = true
+abbrev pub isAccepted : Outcome (List PathCommand) → Bool
+isAccepted (refused r) = false
+isAccepted (accepted cs) = true
 
 -- a row draws nothing where it is no source
-unfoldable pub drawRow : ItemRow → List Float → Outcome
+unfoldable pub drawRow : ItemRow → List Float → Outcome (List PathCommand)
 unfolding drawSource
-drawRow row items = cond (isSourceRow row) (drawSource row items) (drawn [])
+drawRow row items = cond (isSourceRow row) (drawSource row items) (accepted [])
 
-unfoldable pub drawRows : List ItemRow → List Float → Outcome
+unfoldable pub drawRows : List ItemRow → List Float → Outcome (List PathCommand)
 unfolding followedBy drawRow
-drawRows [] items = drawn []
+drawRows [] items = accepted []
 drawRows (r ∷ rs) items = followedBy (drawRow r items) (drawRows rs items)
 
 -- a need with so much room before it
-unfoldable pub needAfter : ℕ → ℕ → Need → Need
-needAfter codes numbers (Refused r) = Refused r
-needAfter codes numbers (Room c n) = Room (codes + c) (numbers + n)
+unfoldable pub needAfter : ℕ → ℕ → Outcome (ℕ × ℕ) → Outcome (ℕ × ℕ)
+needAfter codes numbers o = mapped (λ (n : ℕ × ℕ). (codes + n .0, numbers + n .1)) o

@@ -1,24 +1,20 @@
 // The sources of a merge drawn one after another: judged and counted whole, then written.
-use command::Drawn;
-use command::Need;
+use command::Counts;
 use command::Refusal;
 use draw::Checked;
 use item::ItemRow;
 use merge::Decision;
-use shape::Shape;
 ghost use mathlib.Core.Path.{_≡_};
 ghost use mathlib.Core.Bool.{true};
 ghost use Prim.Native.Nat.{_+_, _*_, _≤_};
 ghost use lib.ListN.{length};
 ghost use lib.Seq.{sets};
 ghost use Rattle.command.specs.Commands.{codesOf, numbersOf};
-ghost use Rattle.command.specs.Outcomes.{Filled, drawn, fitted, commandsOf, drawnNumber, drawnCodes, drawnNumbers};
-ghost use Rattle.command.specs.Needs.{needOf};
-ghost use Rattle.shape.specs.Shape.{shapeCommands, Fit};
-ghost use Rattle.draw.specs.Items.{drawSource};
+ghost use Rattle.command.specs.Outcomes.{mapped, listOf, countsOf, countsNumber, firstCount, secondCount};
+ghost use Rattle.command.specs.Buffers.{inBuffers, fitted, FilledBoth, roomOf};
 ghost use Rattle.nest.specs.Lists.{rowsFrom};
 ghost use Rattle.join.specs.Merge.{drawMerge};
-ghost use Rattle.join.specs.Sources.{isDrawn, drawRow, drawRows};
+ghost use Rattle.join.specs.Sources.{isAccepted, drawRow, drawRows};
 
 // Places in the two buffers.
 pub struct Places {
@@ -26,59 +22,38 @@ pub struct Places {
     pub numbers: usize,
 }
 
-// What a shape needs.
-fn shape_need(shape: Shape, vertices: &[f32]) -> Need
-    requires { ⌜ Fit shape (now vertices) ⌝ }
-    ensures { λ r. ⌜ r ≡ needOf (drawn (shapeCommands shape (now (vertices .entry)))) ⌝ }
-{
-    Need::Room(
-        shape::count_of(shape, vertices),
-        shape::numbers_of(shape, vertices),
-    )
-}
-
-// What a source needs, by the checks of a row with listed entries.
-fn source_need(row: ItemRow, items: &[f32]) -> Need
-    ensures { λ r. ⌜ r ≡ needOf (drawSource row (now (items .entry))) ⌝ }
-{
-    match draw::check_source(row, items) {
-        Checked::Fault(refusal) => Need::Refused(refusal),
-        Checked::Sound(place, shape) => shape_need(shape, &items[place..]),
-    }
-}
-
 // What a row needs: nothing where it is no source.
-fn row_need(row: ItemRow, items: &[f32]) -> Need
-    ensures { λ r. ⌜ r ≡ needOf (drawRow row (now (items .entry))) ⌝ }
+fn row_need(row: ItemRow, items: &[f32]) -> Counts
+    ensures { λ r. ⌜ countsOf r ≡ mapped roomOf (drawRow row (now (items .entry))) ⌝ }
 {
     if merge::is_source(row) {
-        source_need(row, items)
+        draw::source_need(row, items)
     } else {
-        Need::Room(0, 0)
+        Counts::Of(0, 0)
     }
 }
 
 // What the sources among the first m rows need together, or the first refusal of one.
-fn rows_need(rows: &[u32], m: usize, items: &[f32]) -> Need
+fn rows_need(rows: &[u32], m: usize, items: &[f32]) -> Counts
     requires { ⌜ (m ≤ 256) × (6 * m ≤ length (now rows)) ⌝ }
-    ensures { λ r. ⌜ r ≡ needOf (drawRows (rowsFrom (now (rows .entry)) 0 m) (now (items .entry))) ⌝ }
+    ensures { λ r. ⌜ countsOf r ≡ mapped roomOf (drawRows (rowsFrom (now (rows .entry)) 0 m) (now (items .entry))) ⌝ }
 {
     let mut codes: usize = 0;
     let mut numbers: usize = 0;
     let mut i: usize = 0;
     while i < m {
         match row_need(item::item_row(rows, i), items) {
-            Need::Refused(refusal) => {
-                return Need::Refused(refusal);
+            Counts::Refused(refusal) => {
+                return Counts::Refused(refusal);
             }
-            Need::Room(more_codes, more_numbers) => {
+            Counts::Of(more_codes, more_numbers) => {
                 codes += more_codes;
                 numbers += more_numbers;
             }
         }
         i += 1;
     }
-    Need::Room(codes, numbers)
+    Counts::Of(codes, numbers)
 }
 
 // Writes what a row draws at places of buffers that it fits, and gives the places after it.
@@ -90,22 +65,28 @@ fn write_row(
     numbers: &mut [f32],
     j: usize,
 ) -> Places
-    requires { ⌜ isDrawn (drawRow row (now items)) ≡ true ⌝ }
-    requires { ⌜ i + length (codesOf (commandsOf (drawRow row (now items)))) ≤ length (now codes) ⌝ }
-    requires { ⌜ j + length (numbersOf (commandsOf (drawRow row (now items)))) ≤ length (now numbers) ⌝ }
-    ensures { λ r. ⌜ r .codes ≡ i + length (codesOf (commandsOf (drawRow row (now (items .entry))))) ⌝ }
-    ensures { λ r. ⌜ r .numbers ≡ j + length (numbersOf (commandsOf (drawRow row (now (items .entry))))) ⌝ }
-    ensures { λ _. ⌜ now (codes .exit) ≡ sets (now (codes .entry)) i (codesOf (commandsOf (drawRow row (now (items .entry))))) ⌝ }
-    ensures { λ _. ⌜ now (numbers .exit) ≡ sets (now (numbers .entry)) j (numbersOf (commandsOf (drawRow row (now (items .entry))))) ⌝ }
+    requires { ⌜ isAccepted (drawRow row (now items)) ≡ true ⌝ }
+    requires { ⌜ i + length (codesOf (listOf (drawRow row (now items)))) ≤ length (now codes) ⌝ }
+    requires { ⌜ j + length (numbersOf (listOf (drawRow row (now items)))) ≤ length (now numbers) ⌝ }
+    ensures { λ r. ⌜ r .codes ≡ i + length (codesOf (listOf (drawRow row (now (items .entry))))) ⌝ }
+    ensures { λ r. ⌜ r .numbers ≡ j + length (numbersOf (listOf (drawRow row (now (items .entry))))) ⌝ }
+    ensures { λ _. ⌜ now (codes .exit) ≡ sets (now (codes .entry)) i (codesOf (listOf (drawRow row (now (items .entry))))) ⌝ }
+    ensures { λ _. ⌜ now (numbers .exit) ≡ sets (now (numbers .entry)) j (numbersOf (listOf (drawRow row (now (items .entry))))) ⌝ }
 {
     if merge::is_source(row) {
-        let shape = draw::shape_of(row, items);
-        let place = row.place;
-        let vertices = &items[place..];
-        let next = shape::write_at(shape, vertices, codes, i, numbers, j);
-        Places {
-            codes: i + shape::count_of(shape, vertices),
-            numbers: next,
+        match draw::shape_of(row, items) {
+            Checked::Fault(_) => Places {
+                codes: i,
+                numbers: j,
+            },
+            Checked::Sound(place, shape) => {
+                let list = &items[place..];
+                let next = shape::write_at(shape, list, codes, i, numbers, j);
+                Places {
+                    codes: i + shape::count_of(shape, list),
+                    numbers: next,
+                }
+            }
         }
     } else {
         Places {
@@ -118,11 +99,11 @@ fn write_row(
 // Writes what the first m rows draw from the start of buffers that it fits.
 fn write_rows(rows: &[u32], m: usize, items: &[f32], codes: &mut [u8], numbers: &mut [f32])
     requires { ⌜ 6 * m ≤ length (now rows) ⌝ }
-    requires { ⌜ isDrawn (drawRows (rowsFrom (now rows) 0 m) (now items)) ≡ true ⌝ }
-    requires { ⌜ length (codesOf (commandsOf (drawRows (rowsFrom (now rows) 0 m) (now items)))) ≤ length (now codes) ⌝ }
-    requires { ⌜ length (numbersOf (commandsOf (drawRows (rowsFrom (now rows) 0 m) (now items)))) ≤ length (now numbers) ⌝ }
-    ensures { λ _. ⌜ now (codes .exit) ≡ sets (now (codes .entry)) 0 (codesOf (commandsOf (drawRows (rowsFrom (now (rows .entry)) 0 m) (now (items .entry))))) ⌝ }
-    ensures { λ _. ⌜ now (numbers .exit) ≡ sets (now (numbers .entry)) 0 (numbersOf (commandsOf (drawRows (rowsFrom (now (rows .entry)) 0 m) (now (items .entry))))) ⌝ }
+    requires { ⌜ isAccepted (drawRows (rowsFrom (now rows) 0 m) (now items)) ≡ true ⌝ }
+    requires { ⌜ length (codesOf (listOf (drawRows (rowsFrom (now rows) 0 m) (now items)))) ≤ length (now codes) ⌝ }
+    requires { ⌜ length (numbersOf (listOf (drawRows (rowsFrom (now rows) 0 m) (now items)))) ≤ length (now numbers) ⌝ }
+    ensures { λ _. ⌜ now (codes .exit) ≡ sets (now (codes .entry)) 0 (codesOf (listOf (drawRows (rowsFrom (now (rows .entry)) 0 m) (now (items .entry))))) ⌝ }
+    ensures { λ _. ⌜ now (numbers .exit) ≡ sets (now (numbers .entry)) 0 (numbersOf (listOf (drawRows (rowsFrom (now (rows .entry)) 0 m) (now (items .entry))))) ⌝ }
 {
     let mut at: usize = 0;
     let mut to: usize = 0;
@@ -136,24 +117,24 @@ fn write_rows(rows: &[u32], m: usize, items: &[f32], codes: &mut [u8], numbers: 
 }
 
 // Draws the sources among the first m rows into two buffers, if they fit.
-fn join_rows(rows: &[u32], m: usize, items: &[f32], codes: &mut [u8], numbers: &mut [f32]) -> Drawn
+fn join_rows(rows: &[u32], m: usize, items: &[f32], codes: &mut [u8], numbers: &mut [f32]) -> Counts
     requires { ⌜ (m ≤ 256) × (6 * m ≤ length (now rows)) ⌝ }
-    ensures { λ r. ⌜ Filled
-        (fitted (length (now (codes .entry))) (length (now (numbers .entry))) (drawRows (rowsFrom (now (rows .entry)) 0 m) (now (items .entry))))
-        (drawnNumber r) (drawnCodes r) (drawnNumbers r)
+    ensures { λ r. ⌜ FilledBoth
+        (fitted (inBuffers (length (now (codes .entry))) (length (now (numbers .entry)))) (drawRows (rowsFrom (now (rows .entry)) 0 m) (now (items .entry))))
+        (countsNumber r) (firstCount r) (secondCount r)
         (now (codes .entry)) (now (codes .exit)) (now (numbers .entry)) (now (numbers .exit)) ⌝ }
 {
     match rows_need(rows, m, items) {
-        Need::Refused(refusal) => Drawn::Refused(refusal),
-        Need::Room(codes_needed, numbers_needed) => {
+        Counts::Refused(refusal) => Counts::Refused(refusal),
+        Counts::Of(codes_needed, numbers_needed) => {
             if codes_needed > codes.len() {
-                return Drawn::Refused(Refusal::BufferTooSmall);
+                return Counts::Refused(Refusal::BufferTooSmall);
             }
             if numbers_needed > numbers.len() {
-                return Drawn::Refused(Refusal::BufferTooSmall);
+                return Counts::Refused(Refusal::BufferTooSmall);
             }
             write_rows(rows, m, items, codes, numbers);
-            Drawn::Written(codes_needed, numbers_needed)
+            Counts::Of(codes_needed, numbers_needed)
         }
     }
 }
@@ -165,14 +146,14 @@ pub fn draw_merge(
     items: &[f32],
     codes: &mut [u8],
     numbers: &mut [f32],
-) -> Drawn
-    ensures { λ r. ⌜ Filled
-        (fitted (length (now (codes .entry))) (length (now (numbers .entry))) (drawMerge (now (rows .entry)) n (now (items .entry))))
-        (drawnNumber r) (drawnCodes r) (drawnNumbers r)
+) -> Counts
+    ensures { λ r. ⌜ FilledBoth
+        (fitted (inBuffers (length (now (codes .entry))) (length (now (numbers .entry)))) (drawMerge (now (rows .entry)) n (now (items .entry))))
+        (countsNumber r) (firstCount r) (secondCount r)
         (now (codes .entry)) (now (codes .exit)) (now (numbers .entry)) (now (numbers .exit)) ⌝ }
 {
     match merge::decide(rows, n) {
-        Decision::Refused(refusal) => Drawn::Refused(refusal),
+        Decision::Refused(refusal) => Counts::Refused(refusal),
         Decision::Joined(m) => join_rows(rows, m, items, codes, numbers),
     }
 }

@@ -1,33 +1,35 @@
--- The place and the count that are told of a command's numbers are those of the part that is handed back, and so is the number. Assumes nothing.
-use mathlib.Core.Path.{_≡_, refl, ap, _∙_}
+-- The place and the count that are told of a command's numbers cut the part that is handed back, and the number is the same. Assumes nothing.
+use mathlib.Core.Path.{_≡_, refl}
 use mathlib.Core.List.{List}
 use Prim.Native.Nat.{ℕ}
 use lib.Ieee.{Float}
 use lib.ListN.{getD, take, drop}
-use Rattle.command.specs.Outcomes.{Outcome, refused, drawn}
-use Rattle.judge.specs.declared.Found.{Found}
-use Rattle.judge.specs.Lists.{Located, sizeOfCode, placeOf, judgeCommand, foundOf, findCommand, foundNumber, foundStart, foundCount, commandFault, partOf, commandPart}
-use Rattle.judge.proofs.Ways.{number-found}
+use Rattle.command.specs.declared.PathCommand.{PathCommand}
+use Rattle.command.specs.Outcomes.{Outcome, refused, accepted, numberOf, mapped, listOf}
+use Rattle.reader.specs.Read.{sizeOfCode}
+use Rattle.judge.specs.Lists.{placeOf, judgeCommand, findCommand, commandFault, commandPart}
 
-part-found : (o : Outcome) (start count : ℕ) (v : List Float)
-    → take (foundCount (foundOf o start count)) (drop (foundStart (foundOf o start count)) v) ≡ partOf o (take count (drop start v))
-unfolding foundOf partOf
-part-found (refused r) start count v = refl
-part-found (drawn cs) start count v = refl
+-- the part of a list from a place on, of so many numbers: none for a refusal
+abbrev partAt : List Float → Outcome (ℕ × ℕ) → List Float
+partAt v o = listOf (mapped (λ (n : ℕ × ℕ). take (n .1) (drop (n .0) v)) o)
 
 module _ (codes : List ℕ) (numbers : List Float) (k : ℕ) where
-  pub found-part : take (foundCount (findCommand codes numbers k)) (drop (foundStart (findCommand codes numbers k)) numbers) ≡ commandPart codes numbers k
+  abbrev found : List PathCommand → ℕ × ℕ
+  found cs = (placeOf k codes, sizeOfCode (getD codes k 3))
+
+  pub found-part : partAt numbers (findCommand codes numbers k) ≡ commandPart codes numbers k
   unfolding findCommand commandPart
-  found-part = part-found (judgeCommand codes numbers k) (placeOf k codes) (sizeOfCode (getD codes k 3)) numbers
+  found-part = go (judgeCommand codes numbers k)
+    where
+      go : (o : Outcome (List PathCommand)) → partAt numbers (mapped found o)
+          ≡ listOf (mapped (λ (cs : List PathCommand). take (sizeOfCode (getD codes k 3)) (drop (placeOf k codes) numbers)) o)
+      go (refused r) = refl
+      go (accepted cs) = refl
 
-  pub found-fault : foundNumber (findCommand codes numbers k) ≡ commandFault codes numbers k
+  pub found-fault : numberOf (findCommand codes numbers k) ≡ commandFault codes numbers k
   unfolding findCommand commandFault
-  found-fault = number-found (judgeCommand codes numbers k) (placeOf k codes) (sizeOfCode (getD codes k 3))
-
--- an answer's three values, as the promise has them
-pub located : (f g : Found) → f ≡ g → (n start count : ℕ) → n ≡ foundNumber f → start ≡ foundStart f → count ≡ foundCount f → Located g n start count
-located f g e n start count n-is start-is count-is = record {
-  number-is = n-is ∙ ap foundNumber e;
-  start-is = start-is ∙ ap foundStart e;
-  count-is = count-is ∙ ap foundCount e;
-}
+  found-fault = go (judgeCommand codes numbers k)
+    where
+      go : (o : Outcome (List PathCommand)) → numberOf (mapped found o) ≡ numberOf o
+      go (refused r) = refl
+      go (accepted cs) = refl

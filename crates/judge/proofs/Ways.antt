@@ -1,218 +1,97 @@
 -- What each way out of a function of this crate owes, as the code meets it: a premise for each test and for each call's result.
 -- Assumes nothing.
-use mathlib.Core.Path.{_≡_, refl, sym, ap, _∙_, subst}
-use mathlib.Core.Bool.{Bool, true, false, cond}
+use mathlib.Core.Path.{_≡_, refl, sym, ap, _∙_}
+use mathlib.Core.Bool.{Bool, true, false, cond, not}
 use mathlib.Core.List.{List, [], _∷_}
 use Prim.Native.Nat.{ℕ, zero, suc, _+_, _-_, _*_, _≤_, _<_}
 use native.Mathlib.Nat.{add-sub-cancel-left}
 use native.Mathlib.Numerals.{add-one}
 use native.Mathlib.Omega.{arith}
-use lib.Dec.{eqb, ltb}
+use lib.Dec.{ltb}
 use lib.Ieee.{Float}
-use lib.ListN.{length, getD, take, drop, length-drop, drop-of-length-le}
-use lib.Seq.{drop-cons, drop-drop}
-use borrow.Author.Tests.{eq-eqb, ne-eqb, lt-ltb, le-ltb, ltb-false, ltb-true}
-use Rattle.ieee.specs.Limit.{allWithin}
+use lib.ListN.{length, getD, take, drop, length-drop}
+use borrow.Author.Tests.{lt-ltb, le-ltb, ltb-false, ltb-true}
 use Rattle.command.specs.declared.PathCommand.{PathCommand}
 use Rattle.command.specs.declared.Refusal.{Refusal}
-use Rattle.command.specs.declared.Refusal.the-variants.{TooMany, OutOfRange, Unlisted, OutOfBounds}
-use Rattle.command.specs.Commands.{commandLimit}
-use Rattle.command.specs.Outcomes.{Outcome, refused, drawn, numberOf}
+use Rattle.command.specs.declared.Refusal.the-variants.{TooMany, OutOfBounds}
+use Rattle.command.specs.declared.Counts.{Counts}
+use Rattle.command.specs.declared.Counts.the-variants.{Refused, Of}
+use Rattle.command.specs.Outcomes.{Outcome, refused, accepted, numberOf, mapped, andThen, valueOr, listOf, _gives_, checked, countsOf, countsNumber}
+use Rattle.command.proofs.Outcomes.{refused-accepted, checks-passed}
+use Rattle.reader.specs.declared.Read.{Read}
+use Rattle.reader.specs.declared.Read.the-variants as read
+use Rattle.reader.specs.Read.{sizeOfCode, readCommand, readOf, readFrom}
+use Rattle.reader.proofs.Commands.{size-most, Accepted, accepted-read}
 use Rattle.judge.specs.declared.Judged.{Judged}
 use Rattle.judge.specs.declared.Judged.the-variants.{Fault, Sound}
-use Rattle.judge.specs.declared.Found.{Found}
-use Rattle.judge.specs.declared.Found.the-variants.{Refused, At}
-use Rattle.judge.specs.Lists.{sizeOfCode, commandAt, before, readList, judgeList, judgedOf, placeOf, askedFor, judgeCommand, foundOf, findCommand, foundNumber, foundStart, foundCount, commandFault, partOf, commandPart}
+use Rattle.judge.specs.Lists.{before, readList, judgeList, judgedOf, verdict, placeOf, askedFor, judgeCommand, findCommand, commandFault, commandPart}
+use Rattle.judge.proofs.Walk.{Left, walk-start, list-many, walk-refused, walk-next, walk-over, walk-end}
 
--- ---- size_of_code
-module _ (c : ℕ) where
-  pub size-pair : c < 2 → 2 ≡ sizeOfCode c
-  unfolding sizeOfCode
-  size-pair a = rw (lt-ltb c 2 a)
-
-  module _ (a : 2 ≤ c) where
-    pub size-cubic : c ≡ 2 → 6 ≡ sizeOfCode c
-    unfolding sizeOfCode
-    size-cubic b = rw (le-ltb c 2 a, eq-eqb c 2 b)
-
-    module _ (b : c ≡ 2 → ⊥) where
-      pub size-quad : c ≡ 4 → 4 ≡ sizeOfCode c
-      unfolding sizeOfCode
-      size-quad d = rw (le-ltb c 2 a, ne-eqb c 2 b, eq-eqb c 4 d)
-
-      pub size-close : (c ≡ 4 → ⊥) → 0 ≡ sizeOfCode c
-      unfolding sizeOfCode
-      size-close d = rw (le-ltb c 2 a, ne-eqb c 2 b, ne-eqb c 4 d)
-
-pub ruleset sizes = (size-pair, size-cubic, size-quad, size-close)
-
--- ---- judge
-judged-before : (c : PathCommand) (o : Outcome) → judgedOf (before c o) ≡ judgedOf o
-unfolding judgedOf before
-judged-before c (refused r) = refl
-judged-before c (drawn cs) = refl
-
--- the first command's checks
-module _ (c : ℕ) (cs : List ℕ) (v : List Float) where
-  read-unlisted : 4 < c → judgedOf (readList (c ∷ cs) v) ≡ Fault Unlisted
-  unfolding readList judgedOf
-  read-unlisted a = rw (lt-ltb 4 c a)
-
-  module _ (a : c ≤ 4) where
-    read-short : length v < sizeOfCode c → judgedOf (readList (c ∷ cs) v) ≡ Fault OutOfBounds
-    unfolding readList judgedOf
-    read-short b = rw (le-ltb 4 c a, lt-ltb (length v) (sizeOfCode c) b)
-
-    module _ (b : sizeOfCode c ≤ length v) where
-      read-beyond : allWithin commandLimit (take (sizeOfCode c) v) ≡ false → judgedOf (readList (c ∷ cs) v) ≡ Fault OutOfRange
-      unfolding readList judgedOf
-      read-beyond d = rw (le-ltb 4 c a, le-ltb (length v) (sizeOfCode c) b, d)
-
-      read-on : allWithin commandLimit (take (sizeOfCode c) v) ≡ true
-          → judgedOf (readList (c ∷ cs) v) ≡ judgedOf (readList cs (drop (sizeOfCode c) v))
-      unfolding readList
-      read-on d =
-          rw (le-ltb 4 c a, le-ltb (length v) (sizeOfCode c) b, d)
-          (judged-before (commandAt c v) (readList cs (drop (sizeOfCode c) v)))
-
--- after the last command
-pub left-over : (u : List Float) → 0 < length u → Fault OutOfBounds ≡ judgedOf (readList [] u)
-unfolding readList judgedOf
-left-over u a = let e : length u ≡ 0 → ⊥ = λ z. omega arith in rw (ne-eqb (length u) 0 e)
-
-none-over : (u : List Float) → length u ≡ 0 → Sound ≡ judgedOf (readList [] u)
-unfolding readList judgedOf
-none-over u a = rw (eq-eqb (length u) 0 a)
-
--- the rest, judged from place i of the codes and from place of the numbers, settles the answer
-unfoldable pub Left : List ℕ → List Float → ℕ → ℕ → Type 0
-Left codes numbers i place = judgedOf (readList (drop i codes) (drop place numbers)) ≡ judgedOf (readList codes numbers)
+-- ---- judge: a walk with nothing to carry
+abbrev pub nothing : Unit {0} → List PathCommand → Unit {0}
+nothing s cs = tt
 
 module _ (codes : List ℕ) (numbers : List Float) where
-  pub list-many : 262144 < length codes → Fault TooMany ≡ judgedOf (judgeList codes numbers)
-  unfolding judgeList judgedOf
-  list-many a = rw (lt-ltb 262144 (length codes) a)
+  pub judge-many : 262144 < length codes → refused TooMany ≡ verdict (judgeList codes numbers)
+  judge-many a = list-many nothing codes numbers tt a
 
-  pub left-all : Left codes numbers 0 0
-  unfolding Left
-  left-all = refl
+  pub judge-start : Left nothing codes numbers tt tt 0 0
+  judge-start = walk-start nothing codes numbers tt
 
-  list-read : length codes ≤ 262144 → judgedOf (readList codes numbers) ≡ judgedOf (judgeList codes numbers)
-  unfolding judgeList
-  list-read a = rw (le-ltb 262144 (length codes) a)
+  module _ (i place : ℕ) (left : Left nothing codes numbers tt tt i place) where
+    pub judge-inside : place ≤ length numbers
+    judge-inside = left .inside
 
-  module _ (i place : ℕ) (left : Left codes numbers i place) (inside : place ≤ length numbers) where
-    abbrev v : List Float
-    v = drop place numbers
+    module _ (h : i < length codes) (r : Read) (r-is : readOf r ≡ readFrom (getD codes i 0) numbers place) where
+      pub judge-refused : length codes ≤ 262144 → (refusal : Refusal) → r ≡ read.Refused refusal → refused refusal ≡ verdict (judgeList codes numbers)
+      judge-refused few refusal e = walk-refused nothing codes numbers tt tt i place left h r r-is few refusal e
 
-    abbrev c : ℕ
-    c = getD codes i 0
-
-    left-length : length v ≡ length numbers - place
-    left-length = length-drop place numbers
-
-    module _ (h : i < length codes) where
-      here : judgedOf (readList (c ∷ drop (suc i) codes) v) ≡ judgedOf (readList codes numbers)
-      unfolding Left
-      here = ap (λ (l : List ℕ). judgedOf (readList l v)) (sym (drop-cons codes i 0 h)) ∙ left
-
-      pub judge-unlisted : length codes ≤ 262144 → 4 < c → Fault Unlisted ≡ judgedOf (judgeList codes numbers)
-      judge-unlisted few a = sym (read-unlisted c (drop (suc i) codes) v a) ∙ here ∙ list-read few
-
-      module _ (a : c ≤ 4) (n : ℕ) (n-is : n ≡ sizeOfCode c) where
-        pub judge-short : length codes ≤ 262144 → length numbers - place < n → Fault OutOfBounds ≡ judgedOf (judgeList codes numbers)
-        judge-short few b =
-            let e : length v < sizeOfCode c = rw (left-length, ← n-is) b in
-            sym (read-short c (drop (suc i) codes) v a e) ∙ here ∙ list-read few
-
-        module _ (b : n ≤ length numbers - place) where
-          pub next-inside : place + n ≤ length numbers
-          next-inside = omega arith
-
-          enough : sizeOfCode c ≤ length v
-          enough = rw (left-length, ← n-is) b
-
-          module _ (t : Bool) (t-is : t ≡ allWithin commandLimit (take (place + n - place) v)) where
-            same : place + n - place ≡ sizeOfCode c
-            same = omega arith
-
-            judged : allWithin commandLimit (take (sizeOfCode c) v) ≡ t
-            judged = sym (t-is ∙ ap (λ (k : ℕ). allWithin commandLimit (take k v)) same)
-
-            pub judge-beyond : length codes ≤ 262144 → t ≡ false → Fault OutOfRange ≡ judgedOf (judgeList codes numbers)
-            judge-beyond few d = sym (read-beyond c (drop (suc i) codes) v a enough (judged ∙ d)) ∙ here ∙ list-read few
-
-            pub judge-on : t ≡ true → (i' place' : ℕ) → i' ≡ i + 1 → place' ≡ place + n → Left codes numbers i' place'
-            unfolding Left
-            judge-on d i' place' e f =
-                rw (e, f, add-one, ← drop-drop n place numbers, n-is)
-                (sym (read-on c (drop (suc i) codes) v a enough (judged ∙ d)) ∙ here)
+      pub judge-next : (p : PathCommand) (next : ℕ) → r ≡ read.Command p next → Left nothing codes numbers tt tt (i + 1) next
+      judge-next p next e = walk-next nothing codes numbers tt tt i place left h r r-is p next e tt (λ cs. refl) (i + 1) refl
 
     module _ (few : length codes ≤ 262144) (h : length codes ≤ i) where
-      ended : judgedOf (readList [] v) ≡ judgedOf (judgeList codes numbers)
-      unfolding Left
-      ended = ap (λ (l : List ℕ). judgedOf (readList l v)) (sym (drop-of-length-le codes {i = i} h)) ∙ left ∙ list-read few
+      pub judge-over : place < length numbers → refused OutOfBounds ≡ verdict (judgeList codes numbers)
+      judge-over a = walk-over nothing codes numbers tt tt i place left few h a
 
-      pub judge-over : place < length numbers → Fault OutOfBounds ≡ judgedOf (judgeList codes numbers)
-      judge-over a =
-          let e : 0 < length v = rw left-length (omega arith) in
-          left-over v e ∙ ended
+      pub judge-sound : length numbers ≤ place → accepted tt ≡ verdict (judgeList codes numbers)
+      judge-sound a = walk-end nothing codes numbers tt tt i place left few h a
 
-      pub judge-sound : length numbers ≤ place → Sound ≡ judgedOf (judgeList codes numbers)
-      judge-sound a =
-          let e : length v ≡ 0 = rw left-length (omega arith) in
-          none-over v e ∙ ended
-
-pub ruleset judging = (list-many, left-all, judge-unlisted, judge-short, next-inside, judge-beyond, judge-on, judge-over, judge-sound)
+pub ruleset judging = (judge-many, judge-start, judge-inside, judge-refused, judge-next, judge-over, judge-sound)
 
 -- ---- judge_command
--- `askedFor` reads no command of the outcome
-unfoldable askedOf : ℕ → ℕ → Judged → Judged
-askedOf k count (Fault r) = Fault r
-askedOf k count Sound = cond (ltb k count) Sound (Fault OutOfBounds)
-
-asked-judged : (k count : ℕ) (o : Outcome) → judgedOf (askedFor k count o) ≡ askedOf k count (judgedOf o)
-unfolding judgedOf askedFor askedOf
-asked-judged k count (refused r) = refl
-asked-judged k count (drawn cs) = go (ltb k count)
+-- `askedFor` reads no command of the list
+asked : (k count : ℕ) (o : Outcome (List PathCommand))
+    → andThen (verdict o) (λ (u : Unit {0}). checked ((not (ltb k count) gives OutOfBounds) ∷ []) (accepted tt)) ≡ verdict (andThen o (askedFor k count))
+unfolding askedFor
+asked k count (refused r) = refl
+asked k count (accepted cs) = go (ltb k count)
   where
-    go : (b : Bool) → judgedOf (cond b (drawn cs) (refused OutOfBounds)) ≡ cond b Sound (Fault OutOfBounds)
+    go : (b : Bool) → checked ((not b gives OutOfBounds) ∷ []) (accepted (tt {0})) ≡ verdict (checked ((not b gives OutOfBounds) ∷ []) (accepted cs))
     go true = refl
     go false = refl
 
-module _ (codes : List ℕ) (numbers : List Float) (k : ℕ) (j : Judged) (j-is : j ≡ judgedOf (judgeList codes numbers)) where
-  asked : askedOf k (length codes) j ≡ judgedOf (judgeCommand codes numbers k)
-  unfolding judgeCommand
-  asked = ap (askedOf k (length codes)) j-is ∙ sym (asked-judged k (length codes) (judgeList codes numbers))
+module _ (codes : List ℕ) (numbers : List Float) (k : ℕ) (j : Judged) (j-is : judgedOf j ≡ verdict (judgeList codes numbers)) where
+  abbrev asks : Outcome (Unit {0}) → Outcome (Unit {0})
+  asks o = andThen o (λ (u : Unit {0}). checked ((not (ltb k (length codes)) gives OutOfBounds) ∷ []) (accepted tt))
 
-  pub asked-fault : (r : Refusal) → j ≡ Fault r → Fault r ≡ judgedOf (judgeCommand codes numbers k)
-  unfolding askedOf
-  asked-fault r e = ap (askedOf k (length codes)) (sym e) ∙ asked
+  pub asked-fault : (r : Refusal) → j ≡ Fault r → refused r ≡ verdict (judgeCommand codes numbers k)
+  unfolding judgeCommand
+  asked-fault r e = ap (λ (x : Judged). asks (judgedOf x)) (sym e) ∙ ap asks j-is ∙ asked k (length codes) (judgeList codes numbers)
 
   module _ (e : j ≡ Sound) where
-    sound : cond (ltb k (length codes)) Sound (Fault OutOfBounds) ≡ judgedOf (judgeCommand codes numbers k)
-    unfolding askedOf
-    sound = ap (askedOf k (length codes)) (sym e) ∙ asked
+    sound : asks (accepted tt) ≡ verdict (judgeCommand codes numbers k)
+    unfolding judgeCommand
+    sound = ap (λ (x : Judged). asks (judgedOf x)) (sym e) ∙ ap asks j-is ∙ asked k (length codes) (judgeList codes numbers)
 
-    pub asked-sound : k < length codes → Sound ≡ judgedOf (judgeCommand codes numbers k)
+    pub asked-sound : k < length codes → accepted tt ≡ verdict (judgeCommand codes numbers k)
     asked-sound h = rw (lt-ltb k (length codes) h) at sound
 
-    pub asked-missing : length codes ≤ k → Fault OutOfBounds ≡ judgedOf (judgeCommand codes numbers k)
+    pub asked-missing : length codes ≤ k → refused OutOfBounds ≡ verdict (judgeCommand codes numbers k)
     asked-missing h = rw (le-ltb k (length codes) h) at sound
 
 pub ruleset asking = (asked-fault, asked-sound, asked-missing)
 
 -- ---- place_of
-pub size-most : (c : ℕ) → sizeOfCode c ≤ 6
-unfolding sizeOfCode
-size-most c = go (ltb c 2) (eqb c 2) (eqb c 4)
-  where
-    go : (a b d : Bool) → cond a 2 (cond b 6 (cond d 4 0)) ≤ 6
-    go true b d = omega arith
-    go false true d = omega arith
-    go false false true = omega arith
-    go false false false = omega arith
-
 place-suc : (codes : List ℕ) (i : ℕ) → i < length codes → placeOf i codes + sizeOfCode (getD codes i 0) ≡ placeOf (suc i) codes
 unfolding placeOf
 place-suc [] i h = absurd (omega arith)
@@ -243,42 +122,45 @@ module _ (codes : List ℕ) where
 
 pub ruleset places = (place-start, place-end, place-next, place-room)
 
--- ---- sound lists
-abbrev IsSound : Judged → Type 0
-IsSound (Fault r) = ⊥
-IsSound Sound = Unit {0}
+-- ---- accepted lists
+-- the first command of an accepted list is read, and so are the rest
+pub record Front (c : ℕ) (cs : List ℕ) (v : List Float) (ps : List PathCommand) : Type 0 where
+  pub command : PathCommand
+  pub rest : List PathCommand
+  pub read-is : readCommand c v ≡ accepted command
+  pub rest-is : readList cs (drop (sizeOfCode c) v) ≡ accepted rest
+  pub is : ps ≡ command ∷ rest
 
-pub fault-sound : (r : Refusal) {A : Type 0} → Fault r ≡ Sound → A
-fault-sound r e = absurd (subst IsSound (sym e) tt)
-
--- the first command of a sound list passes its checks, and the rest is sound
-pub sound-splits : (c : ℕ) (cs : List ℕ) (v : List Float) → judgedOf (readList (c ∷ cs) v) ≡ Sound
-    → (c ≤ 4) × (sizeOfCode c ≤ length v) × (allWithin commandLimit (take (sizeOfCode c) v) ≡ true)
-    × (judgedOf (readList cs (drop (sizeOfCode c) v)) ≡ Sound)
-unfolding readList
-sound-splits c cs v e =
-    let s = go (ltb 4 c) (ltb (length v) (sizeOfCode c)) (allWithin commandLimit (take (sizeOfCode c) v)) (commandAt c v) (readList cs (drop (sizeOfCode c) v)) e in
-    (ltb-false 4 c (s .0), ltb-false (length v) (sizeOfCode c) (s .1), s .2, s .3)
+pub front : (c : ℕ) (cs : List ℕ) (v : List Float) (ps : List PathCommand) → readList (c ∷ cs) v ≡ accepted ps → Front c cs v ps
+unfolding readList before
+front c cs v ps e = go (readCommand c v) refl (readList cs (drop (sizeOfCode c) v)) refl e
   where
-    go : (a b t : Bool) (p : PathCommand) (o : Outcome)
-        → judgedOf (cond a (refused Unlisted) (cond b (refused OutOfBounds) (cond t (before p o) (refused OutOfRange)))) ≡ Sound
-        → (a ≡ false) × (b ≡ false) × (t ≡ true) × (judgedOf o ≡ Sound)
-    go true b t p o e = fault-sound Unlisted (unfold judgedOf in e)
-    go false true t p o e = fault-sound OutOfBounds (unfold judgedOf in e)
-    go false false true p o e = (refl, refl, refl, sym (judged-before p o) ∙ e)
-    go false false false p o e = fault-sound OutOfRange (unfold judgedOf in e)
+    go : (o : Outcome PathCommand) → readCommand c v ≡ o → (q : Outcome (List PathCommand)) → readList cs (drop (sizeOfCode c) v) ≡ q → andThen o (before q) ≡ accepted ps → Front c cs v ps
+    go (refused r) p q s e = refused-accepted r ps e
+    go (accepted x) p (refused r) s e = refused-accepted r ps e
+    go (accepted x) p (accepted xs) s e = record { command = x; rest = xs; read-is = p; rest-is = s; is = sym (ap listOf e) }
 
--- in a sound list the numbers of each command are inside
-sound-inside : (codes : List ℕ) (v : List Float) (k d : ℕ) → judgedOf (readList codes v) ≡ Sound → k < length codes
+-- an accepted list is not too long, so judging it is reading it
+pub judged-read : (codes : List ℕ) (v : List Float) (ps : List PathCommand) → judgeList codes v ≡ accepted ps → (length codes ≤ 262144) × (readList codes v ≡ accepted ps)
+unfolding judgeList
+judged-read codes v ps e =
+    let p = checks-passed ((ltb 262144 (length codes) gives TooMany) ∷ []) (readList codes v) ps e in
+    (ltb-false 262144 (length codes) (p .0 .0), p .1)
+
+-- in an accepted list the numbers of each command are inside
+accepted-inside : (codes : List ℕ) (v : List Float) (ps : List PathCommand) (k d : ℕ) → readList codes v ≡ accepted ps → k < length codes
     → placeOf k codes + sizeOfCode (getD codes k d) ≤ length v
 unfolding placeOf
-sound-inside [] v k d e h = absurd (omega arith)
-sound-inside (c ∷ cs) v zero d e h = let s = sound-splits c cs v e .1 in omega arith
-sound-inside (c ∷ cs) v (suc k) d e h =
-    let s = sound-splits c cs v e in
-    let i = sound-inside cs (drop (sizeOfCode c) v) k d (s .3) (omega arith) in
+accepted-inside [] v ps k d e h = absurd (omega arith)
+accepted-inside (c ∷ cs) v ps zero d e h =
+    let f = front c cs v ps e in
+    let s = accepted-read c v (f .command) (f .read-is) .inside in
+    omega arith
+accepted-inside (c ∷ cs) v ps (suc k) d e h =
+    let f = front c cs v ps e in
+    let s = accepted-read c v (f .command) (f .read-is) .inside in
+    let i = accepted-inside cs (drop (sizeOfCode c) v) (f .rest) k d (f .rest-is) (omega arith) in
     let l = length-drop (sizeOfCode c) v in
-    let f = s .1 in
     omega arith
 
 -- inside a list no default is read
@@ -287,120 +169,118 @@ getD-any [] i d d' h = absurd (omega arith)
 getD-any (x ∷ l) zero d d' h = refl
 getD-any (x ∷ l) (suc i) d d' h = getD-any l i d d' (omega arith)
 
--- a sound answer for a command, taken apart
-command-splits : (codes : List ℕ) (numbers : List Float) (k : ℕ) → judgedOf (judgeCommand codes numbers k) ≡ Sound
-    → (length codes ≤ 262144) × (judgedOf (readList codes numbers) ≡ Sound) × (k < length codes)
-unfolding judgeCommand judgeList
-command-splits codes numbers k e =
-    let s = go (ltb 262144 (length codes)) (readList codes numbers) e in
-    (ltb-false 262144 (length codes) (s .0), s .1, ltb-true k (length codes) (s .2))
-  where
-    asks : (o : Outcome) → judgedOf (askedFor k (length codes) o) ≡ Sound → (judgedOf o ≡ Sound) × (ltb k (length codes) ≡ true)
-    asks (refused r) e = fault-sound r (unfold judgedOf askedFor in e)
-    asks (drawn cs) e = (unfold judgedOf in refl, pick (ltb k (length codes)) (unfold askedFor in e))
-      where
-        pick : (b : Bool) → judgedOf (cond b (drawn cs) (refused OutOfBounds)) ≡ Sound → b ≡ true
-        pick true e = refl
-        pick false e = fault-sound OutOfBounds (unfold judgedOf in e)
+-- an answer for a command, taken apart
+record Answer (codes : List ℕ) (numbers : List Float) (k : ℕ) : Type 0 where
+  few : length codes ≤ 262144
+  there : k < length codes
+  commands : List PathCommand
+  is-read : readList codes numbers ≡ accepted commands
+  is : judgeCommand codes numbers k ≡ accepted commands
 
-    go : (a : Bool) (o : Outcome) → judgedOf (askedFor k (length codes) (cond a (refused TooMany) o)) ≡ Sound
-        → (a ≡ false) × (judgedOf o ≡ Sound) × (ltb k (length codes) ≡ true)
-    go true o e = fault-sound TooMany (unfold judgedOf askedFor in e)
-    go false o e = let s = asks o e in (refl, s .0, s .1)
+answer-of : (codes : List ℕ) (numbers : List Float) (k : ℕ) (ps : List PathCommand) → judgeCommand codes numbers k ≡ accepted ps → Answer codes numbers k
+unfolding judgeCommand askedFor
+answer-of codes numbers k ps e = go (judgeList codes numbers) refl e
+  where
+    held : (b : Bool) → not b ≡ false → b ≡ true
+    held true e = refl
+    held false e = sym e
+
+    go : (o : Outcome (List PathCommand)) → judgeList codes numbers ≡ o → andThen o (askedFor k (length codes)) ≡ accepted ps → Answer codes numbers k
+    go (refused r) p e = refused-accepted r ps e
+    go (accepted cs) p e =
+        let s = judged-read codes numbers cs p in
+        let t = checks-passed ((not (ltb k (length codes)) gives OutOfBounds) ∷ []) (accepted cs) ps e in
+        record {
+          few = s .0;
+          there = ltb-true k (length codes) (held (ltb k (length codes)) (t .0 .0));
+          commands = cs;
+          is-read = s .1;
+          is = ap (λ (x : Outcome (List PathCommand)). andThen x (askedFor k (length codes))) p ∙ e ∙ sym (t .1);
+        }
 
 -- ---- find_command
--- `foundOf` reads no command of the outcome either
-unfoldable foundAs : Judged → ℕ → ℕ → Found
-foundAs (Fault r) start count = Refused r
-foundAs Sound start count = At start count
+-- what is told of command k, whatever the commands are
+abbrev found : List ℕ → ℕ → List PathCommand → ℕ × ℕ
+found codes k cs = (placeOf k codes, sizeOfCode (getD codes k 3))
 
-found-as : (o : Outcome) (start count : ℕ) → foundAs (judgedOf o) start count ≡ foundOf o start count
-unfolding foundAs judgedOf foundOf
-found-as (refused r) start count = refl
-found-as (drawn cs) start count = refl
-
-module _ (codes : List ℕ) (numbers : List Float) (k : ℕ) (j : Judged) (j-is : j ≡ judgedOf (judgeCommand codes numbers k)) where
-  abbrev found : Judged → Found
-  found x = foundAs x (placeOf k codes) (sizeOfCode (getD codes k 3))
-
-  found-is : found j ≡ findCommand codes numbers k
+module _ (codes : List ℕ) (numbers : List Float) (k : ℕ) (j : Judged) (j-is : judgedOf j ≡ verdict (judgeCommand codes numbers k)) where
+  pub find-refused : (r : Refusal) → j ≡ Fault r → refused r ≡ findCommand codes numbers k
   unfolding findCommand
-  found-is = ap found j-is ∙ found-as (judgeCommand codes numbers k) (placeOf k codes) (sizeOfCode (getD codes k 3))
-
-  pub find-refused : (r : Refusal) → j ≡ Fault r → Refused r ≡ findCommand codes numbers k
-  unfolding foundAs
-  find-refused r e = ap found (sym e) ∙ found-is
+  find-refused r e = go (judgeCommand codes numbers k) (ap judgedOf (sym e) ∙ j-is)
+    where
+      go : (o : Outcome (List PathCommand)) → refused r ≡ verdict o → refused r ≡ mapped (found codes k) o
+      go (refused q) e = cc
+      go (accepted cs) e = refused-accepted r tt e
 
   module _ (e : j ≡ Sound) where
-    splits : (length codes ≤ 262144) × (judgedOf (readList codes numbers) ≡ Sound) × (k < length codes)
-    splits = command-splits codes numbers k (sym j-is ∙ e)
+    answer : Answer codes numbers k
+    answer = go (judgeCommand codes numbers k) refl (ap judgedOf (sym e) ∙ j-is)
+      where
+        go : (o : Outcome (List PathCommand)) → judgeCommand codes numbers k ≡ o → accepted tt ≡ verdict o → Answer codes numbers k
+        go (refused q) p e = refused-accepted q tt (sym e)
+        go (accepted cs) p e = answer-of codes numbers k cs p
 
     pub command-few : length codes ≤ 262144
-    command-few = splits .0
+    command-few = answer .few
 
     pub command-there : k < length codes
-    command-there = splits .2
+    command-there = answer .there
 
     pub command-inside : k ≤ length codes
     command-inside = let h = command-there in omega arith
 
-    pub find-at : (place n : ℕ) → place ≡ placeOf k codes → n ≡ sizeOfCode (getD codes k 0) → At place n ≡ findCommand codes numbers k
-    unfolding foundAs
+    pub find-at : (place n : ℕ) → place ≡ placeOf k codes → n ≡ sizeOfCode (getD codes k 0) → countsOf (Of place n) ≡ findCommand codes numbers k
+    unfolding findCommand
     find-at place n place-is n-is =
-        (λ i. At (place-is i) ((n-is ∙ ap sizeOfCode (getD-any codes k 0 3 command-there)) i))
-        ∙ ap found (sym e)
-        ∙ found-is
+        (λ i. accepted (place-is i, (n-is ∙ ap sizeOfCode (getD-any codes k 0 3 command-there)) i))
+        ∙ ap (mapped (found codes k)) (sym (answer .is))
 
 pub ruleset finding = (find-refused, command-few, command-there, command-inside, find-at)
 
 -- ---- command_fault, command_part
-abbrev IsFound : Found → Type 0
-IsFound (Refused r) = ⊥
-IsFound (At start count) = Unit {0}
-
--- `numberOf` and `partOf` read no command either
-pub number-found : (o : Outcome) (start count : ℕ) → foundNumber (foundOf o start count) ≡ numberOf o
-unfolding foundOf
-number-found (refused r) start count = refl
-number-found (drawn cs) start count = refl
-
-part-refused : (o : Outcome) (start count : ℕ) (v : List Float) (r : Refusal) → foundOf o start count ≡ Refused r → partOf o v ≡ []
-unfolding partOf foundOf
-part-refused (refused r) start count w r' e = refl
-part-refused (drawn cs) start count w r' e = absurd (subst IsFound e tt)
-
-found-splits : (o : Outcome) (start count start' count' : ℕ) → foundOf o start count ≡ At start' count'
-    → (judgedOf o ≡ Sound) × (start ≡ start') × (count ≡ count') × ((v : List Float) → partOf o v ≡ v)
-unfolding foundOf
-found-splits (refused r) start count start' count' e = absurd (subst IsFound (sym e) tt)
-found-splits (drawn cs) start count start' count' e = (unfold judgedOf in refl, ap foundStart e, ap foundCount e, λ v. unfold partOf in refl)
-
-module _ (codes : List ℕ) (numbers : List Float) (k : ℕ) (f : Found) (f-is : f ≡ findCommand codes numbers k) where
-  pub fault-number : (n : ℕ) → n ≡ foundNumber f → n ≡ commandFault codes numbers k
+module _ (codes : List ℕ) (numbers : List Float) (k : ℕ) (f : Counts) (f-is : countsOf f ≡ findCommand codes numbers k) where
+  pub fault-number : (n : ℕ) → n ≡ countsNumber f → n ≡ commandFault codes numbers k
   unfolding commandFault findCommand
-  fault-number n n-is = n-is ∙ ap foundNumber f-is ∙ number-found (judgeCommand codes numbers k) (placeOf k codes) (sizeOfCode (getD codes k 3))
+  fault-number n n-is = n-is ∙ ap numberOf f-is ∙ go (judgeCommand codes numbers k)
+    where
+      go : (o : Outcome (List PathCommand)) → numberOf (mapped (found codes k) o) ≡ numberOf o
+      go (refused r) = refl
+      go (accepted cs) = refl
 
   pub part-none : (r : Refusal) → f ≡ Refused r → [] ≡ commandPart codes numbers k
   unfolding commandPart findCommand
-  part-none r e =
-      sym (part-refused (judgeCommand codes numbers k) (placeOf k codes) (sizeOfCode (getD codes k 3)) (take (sizeOfCode (getD codes k 3)) (drop (placeOf k codes) numbers)) r (sym f-is ∙ e))
+  part-none r e = go (judgeCommand codes numbers k) (ap countsOf (sym e) ∙ f-is)
+    where
+      go : (o : Outcome (List PathCommand)) → refused r ≡ mapped (found codes k) o
+          → [] ≡ listOf (mapped (λ (cs : List PathCommand). take (sizeOfCode (getD codes k 3)) (drop (placeOf k codes) numbers)) o)
+      go (refused q) e = refl
+      go (accepted cs) e = refused-accepted r (found codes k cs) e
 
-  module _ (start count : ℕ) (e : f ≡ At start count) where
-    found-at : (judgedOf (judgeCommand codes numbers k) ≡ Sound) × (placeOf k codes ≡ start) × (sizeOfCode (getD codes k 3) ≡ count) × ((v : List Float) → partOf (judgeCommand codes numbers k) v ≡ v)
+  module _ (start count : ℕ) (e : f ≡ Of start count) where
+    located : Answer codes numbers k × (_≡_ {A = ℕ × ℕ} (found codes k []) (start, count))
     unfolding findCommand
-    found-at = found-splits (judgeCommand codes numbers k) (placeOf k codes) (sizeOfCode (getD codes k 3)) start count (sym f-is ∙ e)
+    located = go (judgeCommand codes numbers k) refl (ap countsOf (sym e) ∙ f-is)
+      where
+        go : (o : Outcome (List PathCommand)) → judgeCommand codes numbers k ≡ o → countsOf (Of start count) ≡ mapped (found codes k) o → Answer codes numbers k × (_≡_ {A = ℕ × ℕ} (found codes k []) (start, count))
+        go (refused q) p e = refused-accepted q (start, count) (sym e)
+        go (accepted cs) p e = (answer-of codes numbers k cs p, sym (ap (valueOr (start, count)) e))
+
+    start-is : placeOf k codes ≡ start
+    start-is = ap (λ (x : ℕ × ℕ). x .0) (located .1)
+
+    count-is : sizeOfCode (getD codes k 3) ≡ count
+    count-is = ap (λ (x : ℕ × ℕ). x .1) (located .1)
 
     pub part-inside : start + count ≤ length numbers
     part-inside =
-        let s = command-splits codes numbers k (found-at .0) in
-        rw (← found-at .1, ← found-at .2) (sound-inside codes numbers k 3 (s .1) (s .2))
+        let s = located .0 in
+        rw (← start-is, ← count-is) (accepted-inside codes numbers (s .commands) k 3 (s .is-read) (s .there))
 
     pub part-start-fits : start * 4 < 18446744073709551616
     part-start-fits =
-        let s = command-splits codes numbers k (found-at .0) in
-        let few = s .0 in
-        let there = s .2 in
-        let is = found-at .1 in
+        let few = located .0 .few in
+        let there = located .0 .there in
+        let is = start-is in
         omega (arith, place-most k codes)
 
     pub part-fits : length numbers < 18446744073709551616 → start + count < 18446744073709551616
@@ -410,7 +290,7 @@ module _ (codes : List ℕ) (numbers : List Float) (k : ℕ) (f : Found) (f-is :
     unfolding commandPart
     part-sound =
         ap (λ (m : ℕ). take m (drop start numbers)) (add-sub-cancel-left start count)
-        ∙ sym (λ i. take (found-at .2 i) (drop (found-at .1 i) numbers))
-        ∙ sym (found-at .3 (take (sizeOfCode (getD codes k 3)) (drop (placeOf k codes) numbers)))
+        ∙ sym (λ i. take (count-is i) (drop (start-is i) numbers))
+        ∙ sym (ap (λ (o : Outcome (List PathCommand)). listOf (mapped (λ (cs : List PathCommand). take (sizeOfCode (getD codes k 3)) (drop (placeOf k codes) numbers)) o)) (located .0 .is))
 
 pub ruleset parts = (fault-number, part-none, part-inside, part-start-fits, part-fits, part-sound)

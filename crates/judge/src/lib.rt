@@ -1,9 +1,12 @@
 // A lent command list judged in document 01's order of checks, and the numbers of one of its commands.
+use command::Counts;
 use command::Refusal;
+use reader::Read;
 ghost use mathlib.Core.Path.{_≡_};
 ghost use Prim.Native.Nat.{_≤_};
 ghost use lib.ListN.{length};
-ghost use Rattle.judge.specs.Lists.{sizeOfCode, judgeList, judgedOf, placeOf, judgeCommand, findCommand, foundNumber, foundStart, foundCount, commandFault, commandPart};
+ghost use Rattle.command.specs.Outcomes.{countsOf};
+ghost use Rattle.judge.specs.Lists.{judgeList, judgedOf, verdict, placeOf, judgeCommand, findCommand, commandFault, commandPart};
 
 // What judging a command list finds: the first refusal, or none.
 pub enum Judged {
@@ -11,31 +14,9 @@ pub enum Judged {
     Sound,
 }
 
-// What looking for a command's numbers finds: a refusal, or where they start and how many they are.
-pub enum Found {
-    Refused(Refusal),
-    At(usize, usize),
-}
-
-// How many numbers the command with a code has.
-pub fn size_of_code(code: u8) -> usize
-    ensures { λ r. ⌜ r ≡ sizeOfCode code ⌝ }
-{
-    if code < 2 {
-        return 2;
-    }
-    if code == 2 {
-        return 6;
-    }
-    if code == 4 {
-        return 4;
-    }
-    0
-}
-
 // The first fault of a command list.
 pub fn judge(codes: &[u8], numbers: &[f32]) -> Judged
-    ensures { λ r. ⌜ r ≡ judgedOf (judgeList (now (codes .entry)) (now (numbers .entry))) ⌝ }
+    ensures { λ r. ⌜ judgedOf r ≡ verdict (judgeList (now (codes .entry)) (now (numbers .entry))) ⌝ }
 {
     if codes.len() > 262144 {
         return Judged::Fault(Refusal::TooMany);
@@ -43,20 +24,15 @@ pub fn judge(codes: &[u8], numbers: &[f32]) -> Judged
     let mut i: usize = 0;
     let mut place: usize = 0;
     while i < codes.len() {
-        let code = codes[i];
-        if code > 4 {
-            return Judged::Fault(Refusal::Unlisted);
+        match reader::read_command(codes[i], numbers, place) {
+            Read::Refused(refusal) => {
+                return Judged::Fault(refusal);
+            }
+            Read::Command(_, next) => {
+                place = next;
+            }
         }
-        let n = size_of_code(code);
-        if numbers.len() - place < n {
-            return Judged::Fault(Refusal::OutOfBounds);
-        }
-        if float::all_within(&numbers[place..place + n], 4194304.0) {
-            place += n;
-            i += 1;
-        } else {
-            return Judged::Fault(Refusal::OutOfRange);
-        }
+        i += 1;
     }
     if place < numbers.len() {
         Judged::Fault(Refusal::OutOfBounds)
@@ -67,7 +43,7 @@ pub fn judge(codes: &[u8], numbers: &[f32]) -> Judged
 
 // The first fault of a command list, or a missing command k.
 fn judge_command(codes: &[u8], numbers: &[f32], k: usize) -> Judged
-    ensures { λ r. ⌜ r ≡ judgedOf (judgeCommand (now (codes .entry)) (now (numbers .entry)) k) ⌝ }
+    ensures { λ r. ⌜ judgedOf r ≡ verdict (judgeCommand (now (codes .entry)) (now (numbers .entry)) k) ⌝ }
 {
     match judge(codes, numbers) {
         Judged::Fault(refusal) => Judged::Fault(refusal),
@@ -89,48 +65,19 @@ fn place_of(codes: &[u8], k: usize) -> usize
     let mut i: usize = 0;
     let mut place: usize = 0;
     while i < k {
-        place += size_of_code(codes[i]);
+        place += reader::size_of_code(codes[i]);
         i += 1;
     }
     place
 }
 
 // Where the numbers of command k stand, or why they are not to be had.
-pub fn find_command(codes: &[u8], numbers: &[f32], k: usize) -> Found
-    ensures { λ r. ⌜ r ≡ findCommand (now (codes .entry)) (now (numbers .entry)) k ⌝ }
+pub fn find_command(codes: &[u8], numbers: &[f32], k: usize) -> Counts
+    ensures { λ r. ⌜ countsOf r ≡ findCommand (now (codes .entry)) (now (numbers .entry)) k ⌝ }
 {
     match judge_command(codes, numbers, k) {
-        Judged::Fault(refusal) => Found::Refused(refusal),
-        Judged::Sound => Found::At(place_of(codes, k), size_of_code(codes[k])),
-    }
-}
-
-// The number that is handed back: 0 where they are found.
-pub fn found_number(found: Found) -> u32
-    ensures { λ r. ⌜ r ≡ foundNumber found ⌝ }
-{
-    match found {
-        Found::Refused(refusal) => command::refusal_number(refusal),
-        Found::At(_, _) => 0,
-    }
-}
-
-// The first of them, and how many they are: both 0 for a refusal.
-pub fn found_start(found: Found) -> usize
-    ensures { λ r. ⌜ r ≡ foundStart found ⌝ }
-{
-    match found {
-        Found::Refused(_) => 0,
-        Found::At(start, _) => start,
-    }
-}
-
-pub fn found_count(found: Found) -> usize
-    ensures { λ r. ⌜ r ≡ foundCount found ⌝ }
-{
-    match found {
-        Found::Refused(_) => 0,
-        Found::At(_, count) => count,
+        Judged::Fault(refusal) => Counts::Refused(refusal),
+        Judged::Sound => Counts::Of(place_of(codes, k), reader::size_of_code(codes[k])),
     }
 }
 
@@ -138,7 +85,7 @@ pub fn found_count(found: Found) -> usize
 pub fn command_fault(codes: &[u8], numbers: &[f32], k: usize) -> u32
     ensures { λ r. ⌜ r ≡ commandFault (now (codes .entry)) (now (numbers .entry)) k ⌝ }
 {
-    found_number(find_command(codes, numbers, k))
+    command::counts_number(find_command(codes, numbers, k))
 }
 
 // The numbers of command k, as a part of the lent list; an empty part for a refusal.
@@ -146,7 +93,7 @@ pub fn command_part<'a>(codes: &[u8], numbers: &'a [f32], k: usize) -> &'a [f32]
     ensures { λ r. ⌜ now r ≡ commandPart (now (codes .entry)) (now (numbers .entry)) k ⌝ }
 {
     match find_command(codes, numbers, k) {
-        Found::Refused(_) => &numbers[..0],
-        Found::At(start, count) => &numbers[start..start + count],
+        Counts::Refused(_) => &numbers[..0],
+        Counts::Of(start, count) => &numbers[start..start + count],
     }
 }

@@ -1,3 +1,2 @@
 -- The length of a lent command list.
 pub mod Lists
-pub mod Enlarged

@@ -14,7 +14,7 @@ use Rattle.command.specs.declared.PathCommand.the-variants.{Move, Line, Cubic, 
 use Rattle.command.specs.Commands.{coordinatesOf, numbersOf}
 use Rattle.command.specs.Enlarged.{enlarged, AllOn, CommandTwin, Twins}
 use Rattle.command.proofs.Enlarged.{all-split, twins-take}
-use Rattle.curve.specs.declared.Point.{Point}
+use Rattle.point.specs.declared.Point.{Point}
 use Rattle.curve.specs.Curve.{distance, quadLength, cubicLength}
 use Rattle.curve.proofs.Enlarged.{PointTwin, distance-twin, quad-twin, cubic-twin}
 use Rattle.measure.specs.declared.Place.{Place}

@@ -21,7 +21,7 @@ use Rattle.command.specs.declared.PathCommand.{PathCommand}
 use Rattle.command.specs.declared.PathCommand.the-variants.{Move, Line, Cubic, Close, Quad}
 use Rattle.command.specs.Commands.{coordinatesOf, numbersOf, commandLimit}
 use Rattle.command.proofs.Bounds.{bounded-take, bounded-command, within→commands}
-use Rattle.curve.specs.declared.Point.{Point}
+use Rattle.point.specs.declared.Point.{Point}
 use Rattle.curve.specs.Curve.{distance, quadLengthAfter, cubicLengthAfter, quadLength, cubicLength}
 use Rattle.curve.proofs.Rising.{Inside, distance-bounded, distance-plus, quad-bounded, quad-plus, quad-rise, cubic-bounded, cubic-plus, cubic-rise}
 use Rattle.measure.specs.declared.Place.{Place}

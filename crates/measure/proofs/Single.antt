@@ -4,7 +4,7 @@ use lib.Ieee.{Float}
 use lib.ListN.{length}
 use Rattle.command.specs.declared.PathCommand.{PathCommand}
 use Rattle.command.specs.declared.PathCommand.the-variants.{Move, Line, Cubic, Close, Quad}
-use Rattle.curve.specs.declared.Point.{Point}
+use Rattle.point.specs.declared.Point.{Point}
 use Rattle.measure.specs.declared.Place.{Place}
 use Rattle.measure.specs.declared.Place.the-variants.{Nowhere, At}
 use Rattle.measure.specs.declared.Pen.{Pen}

@@ -4,7 +4,7 @@ use lib.Ieee.{Float}
 use Rattle.ieee.specs.Literal.{zero32}
 use Rattle.command.specs.declared.PathCommand.{PathCommand}
 use Rattle.command.specs.declared.PathCommand.the-variants.{Move, Line, Cubic, Close, Quad}
-use Rattle.curve.specs.declared.Point.{Point}
+use Rattle.point.specs.declared.Point.{Point}
 use Rattle.ieee.specs.Operators.{_⊕_}
 use Rattle.curve.specs.Curve.{distance, quadLength, cubicLength}
 use Rattle.measure.specs.declared.Place.{Place}

@@ -1,6 +1,6 @@
 // The length of a path, a command at a time: `approx_path_length` of drawing_paths.rs.
 use command::PathCommand;
-use curve::Point;
+use point::Point;
 ghost use mathlib.Core.Path.{_≡_};
 ghost use Rattle.measure.specs.Length as spec;
 

@@ -1,4 +1,5 @@
--- What a decision reads of the rows: kinds, hidden flags and depths, the marks of visible rows, and whether every row is listed. It reads nothing past the row number.
+-- What a decision reads of the rows: kinds, hidden flags and depths, the marks of visible rows, and whether every row is listed.
+-- It reads nothing past the row number.
 -- So altering a hidden row's place, mark or count within the rules for a row changes no decision.
 -- Assumes nothing.
 use mathlib.Core.Path.{_≡_, refl, sym, ap, _∙_}
@@ -9,6 +10,7 @@ use lib.Dec.{eqb, leb}
 use lib.ListN.{length, getD, take, drop}
 use borrow.Author.Tests.{le-ltb}
 use Rattle.command.specs.declared.Refusal.the-variants.{NotMergeable}
+use Rattle.command.specs.Outcomes.{refused, accepted}
 use Rattle.item.specs.declared.ItemRow.{ItemRow}
 use Rattle.item.specs.Rows.{isVisible, isListed}
 use Rattle.nest.specs.Lists.{rowsFrom, eachRow}
@@ -17,7 +19,7 @@ use Rattle.nest.proofs.Alike.{Same, Alike, ends, goes, group-alike, nested-alik
 use Rattle.merge.specs.declared.Scan.{Scan}
 use Rattle.merge.specs.declared.Scan.the-variants.{Nowhere, At}
 use Rattle.merge.specs.Flat.{isUnionRow, isSourceRow, sourceCount, sourcesFrom, precedes, scanFrom, follows, cleanAfter, lateFrom}
-use Rattle.merge.specs.Decision.{declined, joined, ruling, decision}
+use Rattle.merge.specs.Decision.{ruling, decision}
 use Rattle.merge.proofs.Flat.{settled, flatRuling, ruling-flat}
 
 -- ---- one row
@@ -79,7 +81,7 @@ settled-alike : {rs qs : List ItemRow} (s : Scan) → Alike rs qs → settled s 
 unfolding settled
 settled-alike Nowhere a = refl
 settled-alike (At m c) a =
-    λ j. cond (leb 2 c && late-alike true (drop-alike (m + 1) a) j) (joined (sources-alike 0 (take-alike m a) j)) (declined NotMergeable)
+    λ j. cond (leb 2 c && late-alike true (drop-alike (m + 1) a) j) (accepted (sources-alike 0 (take-alike m a) j)) (refused NotMergeable)
 
 pub flat-alike : {rs qs : List ItemRow} → Alike rs qs → flatRuling rs ≡ flatRuling qs
 unfolding flatRuling
@@ -95,7 +97,8 @@ pub decision-alike : (rows rows' : List ℕ) (n : ℕ) → length rows ≡ lengt
 unfolding decision
 decision-alike rows rows' n l a listed = rw (l, shallow-alike a, listed, nested-alike 0 a, ruling-alike rows rows' n a)
 
-pub decision-read : (n : ℕ) (rows rows' : List ℕ) → 6 * n ≤ length rows → 6 * n ≤ length rows' → ((j : ℕ) → j < 6 * n → getD rows j 0 ≡ getD rows' j 0) → decision rows n ≡ decision rows' n
+pub decision-read : (n : ℕ) (rows rows' : List ℕ) → 6 * n ≤ length rows → 6 * n ≤ length rows'
+    → ((j : ℕ) → j < 6 * n → getD rows j 0 ≡ getD rows' j 0) → decision rows n ≡ decision rows' n
 unfolding decision
 decision-read n rows rows' l l' same =
     let e : rowsFrom rows 0 n ≡ rowsFrom rows' 0 n = rows-read n rows rows' same in

@@ -12,7 +12,9 @@ use native.Mathlib.Omega.{arith}
 use lib.Dec.{leb, eqb}
 use lib.ListN.{length, take, drop}
 use borrow.Author.Tests.{eqb-true, le-ltb}
+use Rattle.command.specs.declared.Refusal.{Refusal}
 use Rattle.command.specs.declared.Refusal.the-variants.{NotMergeable}
+use Rattle.command.specs.Outcomes.{Outcome, refused, accepted, _gives_, checked}
 use Rattle.item.specs.declared.ItemRow.{ItemRow}
 use Rattle.item.specs.Rows.{itemRow, isVisible, isSource, isGroup, isTransform, isStyle, isMerge}
 use Rattle.nest.specs.Lists.{rowsFrom}
@@ -21,9 +23,10 @@ use Rattle.nest.specs.Flat.{childrenEmpty, groupEmpty}
 use Rattle.nest.proofs.Items.{children-are}
 use Rattle.merge.specs.declared.Scan.{Scan}
 use Rattle.merge.specs.declared.Scan.the-variants.{Nowhere, At}
-use Rattle.merge.specs.Rule.{Entry, entries, isMergeEntry, isUnion, isSourceEntry, noNewSources, mayPrecede, mayFollow, found, before, upTo, after, early, late, sources, joins}
+use Rattle.merge.specs.Rule.{Entry, entries, isMergeEntry, isUnion, isSourceEntry, noNewSources, mayPrecede, mayFollow}
+use Rattle.merge.specs.Rule.{found, before, upTo, after, early, late, sources, joins}
 use Rattle.merge.specs.Flat.{isTop, isUnionRow, isSourceRow, sourcesFrom, precedes, scanFrom, follows, cleanAfter, lateFrom}
-use Rattle.merge.specs.Decision.{Ruling, declined, joined, ruling}
+use Rattle.merge.specs.Decision.{ruling}
 
 -- ---- the items at the top
 
@@ -83,14 +86,16 @@ module _ (i : ℕ) (r : ItemRow) (rs : List ItemRow) (h : eqb (r .depth) 0 ≡ t
 -- ---- what may follow the merge row
 
 -- a group at depth 0 that is visible may not follow
-group-stops : (r : ItemRow) (clean : Bool) → isVisible r ≡ true → isGroup r ≡ true → (not (isVisible r) || isTransform r || isStyle r || (isMerge r && clean)) ≡ false
+group-stops : (r : ItemRow) (clean : Bool) → isVisible r ≡ true → isGroup r ≡ true
+    → (not (isVisible r) || isTransform r || isStyle r || (isMerge r && clean)) ≡ false
 group-stops r clean v g = let k : r .kind ≡ 5 = eqb-true (r .kind) 5 g in rw (v, k)
 
 -- so the flag after a row that may follow is what the rule says of the items up to it
 clean-top : (i : ℕ) (r : ItemRow) (rs : List ItemRow) (back : List Entry) → eqb (r .depth) 0 ≡ true → mayFollow back (entryAt i r rs) ≡ true
     → cleanAfter (noNewSources back) r ≡ noNewSources (entryAt i r rs ∷ back)
 unfolding noNewSources
-clean-top i r rs back h f = rw (top-is r h) (go (isVisible r) (isMerge r) (isTransform r) (isGroup r) (childrenEmpty (r .depth) rs) (noNewSources back) no-group)
+clean-top i r rs back h f =
+    rw (top-is r h) (go (isVisible r) (isMerge r) (isTransform r) (isGroup r) (childrenEmpty (r .depth) rs) (noNewSources back) no-group)
   where
     no-group : isVisible r ≡ true → isGroup r ≡ true → ⊥
     no-group v g = true≢false (sym f ∙ group-stops r (noNewSources back) v g)
@@ -176,7 +181,8 @@ record Scanned (i k m c : ℕ) (rs : List ItemRow) (es : List Entry) : Type 0 wh
   clean : (back : List Entry) → noNewSources (upTo back es) ≡ true
 
 -- the row r is the merge row
-stop : (i k m c : ℕ) (r : ItemRow) (rs : List ItemRow) → isUnion (entryAt i r rs) ≡ true → At i k ≡ At m c → Scanned i k m c (r ∷ rs) (entryAt i r rs ∷ topEntries (i + 1) rs)
+stop : (i k m c : ℕ) (r : ItemRow) (rs : List ItemRow) → isUnion (entryAt i r rs) ≡ true → At i k ≡ At m c
+    → Scanned i k m c (r ∷ rs) (entryAt i r rs ∷ topEntries (i + 1) rs)
 unfolding found early before after sources sourcesFrom noNewSources upTo
 stop i k m c r rs U e =
     let p : i ≡ m = cc in
@@ -195,7 +201,8 @@ stop i k m c r rs U e =
 
 -- the row r stands before the merge row
 pass : (i k m c : ℕ) (r : ItemRow) (rs : List ItemRow) → eqb (r .depth) 0 ≡ true → isUnion (entryAt i r rs) ≡ false → mayPrecede (entryAt i r rs) ≡ true
-    → Scanned (i + 1) (k + cond (isSourceEntry (entryAt i r rs)) 1 0) m c rs (topEntries (i + 1) rs) → Scanned i k m c (r ∷ rs) (entryAt i r rs ∷ topEntries (i + 1) rs)
+    → Scanned (i + 1) (k + cond (isSourceEntry (entryAt i r rs)) 1 0) m c rs (topEntries (i + 1) rs)
+    → Scanned i k m c (r ∷ rs) (entryAt i r rs ∷ topEntries (i + 1) rs)
 unfolding found early before after sources sourcesFrom noNewSources upTo
 pass i k m c r rs h U P s = record {
   place = suc (s .place);
@@ -214,7 +221,8 @@ pass i k m c r rs h U P s = record {
     count false l = omega arith
 
 -- the row r is no item at the top
-skip : (i k m c : ℕ) (r : ItemRow) (rs : List ItemRow) (es : List Entry) → eqb (r .depth) 0 ≡ false → Scanned (i + 1) (k + 0) m c rs es → Scanned i k m c (r ∷ rs) es
+skip : (i k m c : ℕ) (r : ItemRow) (rs : List ItemRow) (es : List Entry) → eqb (r .depth) 0 ≡ false → Scanned (i + 1) (k + 0) m c rs es
+    → Scanned i k m c (r ∷ rs) es
 unfolding sourcesFrom
 skip i k m c r rs es h s = record {
   place = suc (s .place);
@@ -228,7 +236,8 @@ skip i k m c r rs es h s = record {
   clean = s .clean;
 }
 
-scan-step : (i k m c : ℕ) (r : ItemRow) (rs : List ItemRow) (u p : Bool) → eqb (r .depth) 0 ≡ true → isUnion (entryAt i r rs) ≡ u → mayPrecede (entryAt i r rs) ≡ p
+scan-step : (i k m c : ℕ) (r : ItemRow) (rs : List ItemRow) (u p : Bool)
+    → eqb (r .depth) 0 ≡ true → isUnion (entryAt i r rs) ≡ u → mayPrecede (entryAt i r rs) ≡ p
     → cond u (At i k) (cond p (scanFrom (i + 1) (k + cond (isSourceEntry (entryAt i r rs)) 1 0) rs) Nowhere) ≡ At m c
     → ((k' : ℕ) → scanFrom (i + 1) k' rs ≡ At m c → Scanned (i + 1) k' m c rs (topEntries (i + 1) rs))
     → Scanned i k m c (r ∷ rs) (entryAt i r rs ∷ topEntries (i + 1) rs)
@@ -251,17 +260,22 @@ scanned (r ∷ rs) i k m c e = scanned-top i k m c r rs (eqb (r .depth) 0) refl 
 -- ---- the rule
 
 -- what the code makes of a scan
-unfoldable pub settled : Scan → List ItemRow → Ruling
-settled Nowhere rs = declined NotMergeable
-settled (At m c) rs = cond (leb 2 c && lateFrom true (drop (m + 1) rs)) (joined (sourcesFrom 0 (take m rs))) (declined NotMergeable)
+unfoldable pub settled : Scan → List ItemRow → Outcome (List ℕ)
+settled Nowhere rs = refused NotMergeable
+settled (At m c) rs = cond (leb 2 c && lateFrom true (drop (m + 1) rs)) (accepted (sourcesFrom 0 (take m rs))) (refused NotMergeable)
 
-unfoldable pub flatRuling : List ItemRow → Ruling
+unfoldable pub flatRuling : List ItemRow → Outcome (List ℕ)
 unfolding settled
 flatRuling rs = settled (scanFrom 0 0 rs) rs
 
-unfoldable entryRuling : List Entry → Ruling
+unfoldable entryRuling : List Entry → Outcome (List ℕ)
 unfolding joins sources before
-entryRuling es = cond (joins es) (joined (sources (before es))) (declined NotMergeable)
+entryRuling es = checked ((not (joins es) gives NotMergeable) ∷ []) (accepted (sources (before es)))
+
+-- a check that something does not hold
+not-holds : (b : Bool) (r : Refusal) (o : Outcome (List ℕ)) → checked ((not b gives r) ∷ []) o ≡ cond b o (refused r)
+not-holds true r o = refl
+not-holds false r o = refl
 
 entries-settled : (rs : List ItemRow) (s : Scan) → scanFrom 0 0 rs ≡ s → entryRuling (topEntries 0 rs) ≡ settled s rs
 unfolding entryRuling settled joins
@@ -272,6 +286,7 @@ entries-settled rs (At m c) e =
     let q : suc (s .place) ≡ m + 1 = omega arith in
     let many : length (sources (before (topEntries 0 rs))) ≡ c = omega arith in
     rw (s .isFound, s .isEarly, many, s .rest, ← late-are (drop (suc (s .place)) rs) (m + 1) (upTo [] (topEntries 0 rs)), s .clean [], q, s .named, p)
+    (not-holds (leb 2 c && lateFrom true (drop (m + 1) rs)) NotMergeable (accepted (sourcesFrom 0 (take m rs))))
 
 -- the rule on items is the rule on rows
 pub ruling-flat : (rows : List ℕ) (n : ℕ) → ruling rows n ≡ flatRuling (rowsFrom rows 0 n)

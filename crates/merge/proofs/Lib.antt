@@ -1,5 +1,6 @@
--- What the proofs of `merge` cite: the rule on rows, and each way out of a function. What a decision reads, and closed cases.
+-- What the proofs of `merge` cite: the rule on rows, and each way out of a function. What a decision reads and has passed, and closed cases.
 pub mod Flat
 pub mod Ways
 pub mod Alike
+pub mod Passed
 mod Cases

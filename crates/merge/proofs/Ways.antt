@@ -11,6 +11,7 @@ use mir.Val.{Fits}
 use mir.Syntax.{w64}
 use borrow.Author.Tests.{eq-eqb, ne-eqb, le-leb, lt-leb, lt-ltb, le-ltb}
 use Rattle.command.specs.declared.Refusal.the-variants.{Empty, TooMany, Unlisted, BrokenNesting, NotMergeable, OutOfBounds}
+use Rattle.command.specs.Outcomes.{refused, accepted}
 use Rattle.item.specs.declared.ItemRow.{ItemRow}
 use Rattle.item.specs.Rows.{itemRow, isSource, isListed}
 use Rattle.nest.specs.Lists.{rowsFrom, eachRow, isShallow, isNested}
@@ -21,7 +22,7 @@ use Rattle.merge.specs.declared.Scan.the-variants.{Nowhere, At}
 use Rattle.merge.specs.declared.Decision.{Decision}
 use Rattle.merge.specs.declared.Decision.the-variants.{Refused, Joined}
 use Rattle.merge.specs.Flat.{isTop, isUnionRow, isSourceRow, sourceCount, sourcesFrom, precedes, scanFrom, follows, cleanAfter, lateFrom}
-use Rattle.merge.specs.Decision.{declined, joined, ruling, decision, said}
+use Rattle.merge.specs.Decision.{ruling, decision, said}
 use Rattle.merge.proofs.Flat.{settled, flatRuling, ruling-flat, scan-inside, length-rows, drop-rows, take-rows}
 
 -- ---- is_top
@@ -77,7 +78,8 @@ module _ (row : ItemRow) (top : Bool) (top-is : top ≡ isTop row) where
 
       module _ (a : row .kind ≡ 6 → ⊥) (b : row .kind ≡ 13 → ⊥) where
         pub follows-style : 7 ≤ row .kind → leb (row .kind) 12 ≡ follows clean row
-        follows-style h = rw (sym top-is ∙ is-top, ne-eqb (row .kind) 6 a, ne-eqb (row .kind) 13 b, le-leb 7 (row .kind) h) (sym (or-false (leb (row .kind) 12)))
+        follows-style h =
+            rw (sym top-is ∙ is-top, ne-eqb (row .kind) 6 a, ne-eqb (row .kind) 13 b, le-leb 7 (row .kind) h) (sym (or-false (leb (row .kind) 12)))
 
         pub follows-shape : row .kind < 7 → false ≡ follows clean row
         follows-shape h = rw (sym top-is ∙ is-top, ne-eqb (row .kind) 6 a, ne-eqb (row .kind) 13 b, lt-leb 7 (row .kind) h)
@@ -141,7 +143,8 @@ module _ (rows : List ℕ) (i : ℕ) (row : ItemRow) (row-is : row ≡ itemRow r
       group-precedes : (row .kind ≡ 6 → ⊥) → groupEmpty (itemRow rows i) rest ≡ precedes (itemRow rows i) rest
       group-precedes h = ap (λ (r : ItemRow). groupEmpty r rest) (sym row-is) ∙ grouped row rest (sym top-is ∙ is-top) (source-alone ∙ no-source) h ∙ read
 
-module _ (rows : List ℕ) (i : ℕ) (row : ItemRow) (row-is : row ≡ itemRow rows i) (top : Bool) (top-is : top ≡ isTop row) (is-top : top ≡ true) (source : Bool) (source-is : source ≡ isSourceRow row) where
+module _ (rows : List ℕ) (i : ℕ) (row : ItemRow) (row-is : row ≡ itemRow rows i) (top : Bool) (top-is : top ≡ isTop row)
+    (is-top : top ≡ true) (source : Bool) (source-is : source ≡ isSourceRow row) where
   pub precedes-group : source ≡ false → (row .kind ≡ 6 → ⊥) → (x : Bool) (n : ℕ) → x ≡ groupEmpty (itemRow rows i) (rowsFrom rows (i + 1) (n - i - 1))
       → x ≡ precedes (itemRow rows i) (rowsFrom rows (i + 1) (n - (i + 1)))
   precedes-group no-source h x n x-is =
@@ -163,12 +166,14 @@ module _ (rows : List ℕ) (n : ℕ) where
 
     module _ (h : i < n) (row : ItemRow) (row-is : row ≡ itemRow rows i) (union : Bool) (union-is : union ≡ isUnionRow row) where
       scan-here : cond union (At i count)
-          (cond (precedes (itemRow rows i) (rowsFrom rows (i + 1) (n - (i + 1)))) (scanFrom (i + 1) (count + sourceCount row) (rowsFrom rows (i + 1) (n - (i + 1)))) Nowhere)
+          (cond (precedes (itemRow rows i) (rowsFrom rows (i + 1) (n - (i + 1))))
+          (scanFrom (i + 1) (count + sourceCount row) (rowsFrom rows (i + 1) (n - (i + 1)))) Nowhere)
           ≡ scanFrom 0 0 (rowsFrom rows 0 n)
       unfolding scanFrom
       scan-here =
           ap₂ (λ (b : Bool) (r : ItemRow). cond b (At i count)
-          (cond (precedes (itemRow rows i) (rowsFrom rows (i + 1) (n - (i + 1)))) (scanFrom (i + 1) (count + sourceCount r) (rowsFrom rows (i + 1) (n - (i + 1)))) Nowhere))
+          (cond (precedes (itemRow rows i) (rowsFrom rows (i + 1) (n - (i + 1))))
+          (scanFrom (i + 1) (count + sourceCount r) (rowsFrom rows (i + 1) (n - (i + 1)))) Nowhere))
           (union-is ∙ ap isUnionRow row-is) row-is
           ∙ ap (scanFrom i count) (sym (rest-step rows i n h))
           ∙ left
@@ -180,8 +185,10 @@ module _ (rows : List ℕ) (n : ℕ) where
         pub scan-stopped : x ≡ false → Nowhere ≡ scanFrom 0 0 (rowsFrom rows 0 n)
         scan-stopped t = rw (no-union, ← x-is, t) at scan-here
 
-        pub scan-next : x ≡ true → (more : ℕ) → more ≡ sourceCount row → scanFrom (i + 1) (count + more) (rowsFrom rows (i + 1) (n - (i + 1))) ≡ scanFrom 0 0 (rowsFrom rows 0 n)
-        scan-next t more more-is = ap (λ (k : ℕ). scanFrom (i + 1) (count + k) (rowsFrom rows (i + 1) (n - (i + 1)))) more-is ∙ (rw (no-union, ← x-is, t) at scan-here)
+        pub scan-next : x ≡ true → (more : ℕ) → more ≡ sourceCount row
+            → scanFrom (i + 1) (count + more) (rowsFrom rows (i + 1) (n - (i + 1))) ≡ scanFrom 0 0 (rowsFrom rows 0 n)
+        scan-next t more more-is =
+            ap (λ (k : ℕ). scanFrom (i + 1) (count + k) (rowsFrom rows (i + 1) (n - (i + 1)))) more-is ∙ (rw (no-union, ← x-is, t) at scan-here)
 
 module _ (row : ItemRow) (more : ℕ) (more-is : more ≡ sourceCount row) where
   at-most-one : more ≤ 1
@@ -201,7 +208,8 @@ module _ (row : ItemRow) (more : ℕ) (more-is : more ≡ sourceCount row) where
 pub ruleset scans = (scan-start, scan-end, scan-found, scan-stopped, scan-next, sources-fewer, sources-fit)
 
 -- ---- all_follow: the rows that are left settle the answer
-module _ (rows : List ℕ) (n start i : ℕ) (clean : Bool) (left : lateFrom clean (rowsFrom rows i (n - i)) ≡ lateFrom true (rowsFrom rows start (n - start))) where
+module _ (rows : List ℕ) (n start i : ℕ) (clean : Bool)
+    (left : lateFrom clean (rowsFrom rows i (n - i)) ≡ lateFrom true (rowsFrom rows start (n - start))) where
   pub late-end : n ≤ i → true ≡ lateFrom true (rowsFrom rows start (n - start))
   unfolding lateFrom
   late-end h = ap (lateFrom clean) (sym (rest-none rows i n h)) ∙ left
@@ -217,7 +225,8 @@ module _ (rows : List ℕ) (n start i : ℕ) (clean : Bool) (left : lateFrom cle
     pub late-not : x ≡ false → false ≡ lateFrom true (rowsFrom rows start (n - start))
     late-not t = rw t at late-here
 
-    pub late-next : x ≡ true → (after : Bool) → after ≡ cleanAfter clean row → lateFrom after (rowsFrom rows (i + 1) (n - (i + 1))) ≡ lateFrom true (rowsFrom rows start (n - start))
+    pub late-next : x ≡ true → (after : Bool) → after ≡ cleanAfter clean row
+        → lateFrom after (rowsFrom rows (i + 1) (n - (i + 1))) ≡ lateFrom true (rowsFrom rows start (n - start))
     late-next t after after-is = ap (λ (b : Bool). lateFrom b (rowsFrom rows (i + 1) (n - (i + 1)))) after-is ∙ (rw t at late-here)
 
 pub ruleset lates = (late-end, late-not, late-next)
@@ -253,12 +262,13 @@ module _ (rows : List ℕ) (n : ℕ) (scan : Scan) (scan-is : scan ≡ scanFrom 
     rule-few h = rw (lt-leb 2 count h) at (ruled (At m count) e)
 
     module _ (h : 2 ≤ count) (x : Bool) (x-is : x ≡ lateFrom true (rowsFrom rows (m + 1) (n - (m + 1)))) where
-      rule-many : cond x (joined (sourcesFrom 0 (rowsFrom rows 0 m))) (declined NotMergeable) ≡ ruling rows n
+      rule-many : cond x (accepted (sourcesFrom 0 (rowsFrom rows 0 m))) (refused NotMergeable) ≡ ruling rows n
       unfolding settled
       rule-many =
           let inside : m < n = merge-inside in
           let few : m ≤ n = omega arith in
-          let rest : drop (m + 1) (rowsFrom rows 0 n) ≡ rowsFrom rows (m + 1) (n - (m + 1)) = drop-rows rows (m + 1) 0 n ∙ ap (λ (k : ℕ). rowsFrom rows k (n - (m + 1))) (omega arith) in
+          let rest : drop (m + 1) (rowsFrom rows 0 n) ≡ rowsFrom rows (m + 1) (n - (m + 1)) =
+          drop-rows rows (m + 1) 0 n ∙ ap (λ (k : ℕ). rowsFrom rows k (n - (m + 1))) (omega arith) in
           rw (le-leb 2 count h, rest, ← x-is, take-rows rows m 0 n few) at (ruled (At m count) e)
 
       pub rule-not : x ≡ false → said rows (Refused NotMergeable) ≡ ruling rows n
@@ -304,6 +314,7 @@ module _ (rows : List ℕ) (n : ℕ) where
 
             pub rows-ruled : nested ≡ true → (r : Decision) → said rows r ≡ ruling rows n → said rows r ≡ decision rows n
             unfolding decision
-            rows-ruled h r r-is = r-is ∙ rw (ne-eqb n 0 a, le-ltb 256 n b, le-ltb (length rows) (6 * n) d, sym shallow-is ∙ e, sym listed-is ∙ f, sym nested-is ∙ h)
+            rows-ruled h r r-is =
+                r-is ∙ rw (ne-eqb n 0 a, le-ltb 256 n b, le-ltb (length rows) (6 * n) d, sym shallow-is ∙ e, sym listed-is ∙ f, sym nested-is ∙ h)
 
 pub ruleset decisions = (none-given, many-given, rows-short, rows-deep, rows-unlisted, rows-broken, rows-ruled)

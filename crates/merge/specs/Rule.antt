@@ -51,7 +51,8 @@ mayFollow back e = not (isVisible (e .row)) || isTransform (e .row) || isStyle (
 
 -- ---- the rule
 
--- The merge item is the first visible mm of mode 1. Whether there is one, the items before it, it and those before it with the nearest first, and the items after it.
+-- The merge item is the first visible mm of mode 1.
+-- Whether there is one, the items before it, it and those before it with the nearest first, and the items after it.
 unfoldable pub found : List Entry → Bool
 found [] = false
 found (e ∷ es) = isUnion e || found es

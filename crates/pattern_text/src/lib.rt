@@ -1,7 +1,7 @@
 // Bit patterns of numbers in text, as the vectors programs read and print them.
 // A line of theirs is a word of at most eight letters and numbers of eight hexadecimal digits, one blank before each.
 ghost use Prim.Native.Nat.{_<_, _≤_};
-use command::Drawn;
+use command::Counts;
 use libc::STDOUT_FILENO;
 
 // The pattern that the eight hexadecimal digits from `at` on are.
@@ -180,10 +180,10 @@ pub fn print_written(codes: usize, numbers: usize) {
 }
 
 // Writes the answer of a call that fills two buffers, and what they hold after it.
-pub fn print_drawn(drawn: Drawn, codes: &[u8], numbers: &[f32]) {
+pub fn print_drawn(drawn: Counts, codes: &[u8], numbers: &[f32]) {
     match drawn {
-        Drawn::Refused(refusal) => print_refusal(command::refusal_number(refusal)),
-        Drawn::Written(n, m) => print_written(n, m),
+        Counts::Refused(refusal) => print_refusal(command::refusal_number(refusal)),
+        Counts::Of(n, m) => print_written(n, m),
     }
     print_codes(codes);
     print_numbers(numbers);

@@ -7,7 +7,7 @@ use Rattle.command.specs.declared.PathCommand.{PathCommand}
 use Rattle.command.specs.declared.PathCommand.the-variants.{Move, Line, Close}
 use Rattle.command.specs.declared.Refusal.the-variants.{OutOfBounds}
 use Rattle.command.specs.Commands.{codesOf, numbersOf}
-use Rattle.judge.specs.Lists.{sizeOfCode}
+use Rattle.reader.specs.Read.{sizeOfCode}
 use Rattle.plate_print.proofs.Bytes.{bytes}
 use Rattle.plate_print.specs.Lines.{digitOf, leadingDigit, leading, column, columns, line, numbersLine, commandLines, answerText, refusalText, listLines, listText}
 

@@ -9,9 +9,9 @@ use lib.ListN.{length, take, drop, length-append, length-map}
 use lib.Seq.{take-append-seam, drop-append-seam}
 use Rattle.command.specs.declared.PathCommand.{PathCommand}
 use Rattle.command.specs.Commands.{codeOf, coordinatesOf, codesOf, numbersOf}
-use Rattle.judge.specs.Lists.{sizeOfCode, placeOf}
-use Rattle.judge.proofs.Ways.{size-most}
-use Rattle.judge.proofs.Lists.{size-of}
+use Rattle.reader.specs.Read.{sizeOfCode}
+use Rattle.judge.specs.Lists.{placeOf}
+use Rattle.reader.proofs.Commands.{size-of, size-most}
 use Rattle.plate_print.specs.Lines.{column, columns, line, numbersLine, commandLines, answerText, listLines, listText}
 use Rattle.plate_print.proofs.Columns.{column-length}
 

@@ -14,10 +14,11 @@ use lib.Seq.{sets, drop-cons, drop-drop, set-comm, length-sets}
 use borrow.Author.Tests.{eq-eqb, ne-eqb}
 use Rattle.ieee.proofs.Pattern.{is-nan, is-number}
 use Rattle.command.specs.declared.Refusal.{Refusal}
-use Rattle.command.specs.Commands.{onto}
+use Rattle.command.specs.Buffers.{onto}
 use Rattle.command.specs.Refusals.{refusalNumber}
 use Rattle.command.proofs.Buffers.{sets-append, sets-onto}
-use Rattle.judge.specs.Lists.{sizeOfCode, placeOf}
+use Rattle.reader.specs.Read.{sizeOfCode}
+use Rattle.judge.specs.Lists.{placeOf}
 use Rattle.plate_print.specs.Lines.{digitOf, leadingDigit, leading, column, columns, line, numbersLine, refusalText, listLines, listText}
 use Rattle.plate_print.proofs.Columns.{leading-length, column-length}
 use Rattle.plate_print.proofs.Lines.{columns-length, line-length, numbers-line-length, list-most, list-text-length}

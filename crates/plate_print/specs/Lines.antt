@@ -9,7 +9,7 @@ use Rattle.command.specs.declared.PathCommand.{PathCommand}
 use Rattle.command.specs.declared.Refusal.{Refusal}
 use Rattle.command.specs.Commands.{codeOf, coordinatesOf}
 use Rattle.command.specs.Refusals.{refusalNumber}
-use Rattle.judge.specs.Lists.{sizeOfCode}
+use Rattle.reader.specs.Read.{sizeOfCode}
 
 -- ---- numbers in columns
 

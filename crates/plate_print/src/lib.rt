@@ -6,7 +6,7 @@ ghost use Prim.Native.Nat.{_+_, _*_, _≤_, _<_};
 ghost use lib.Ieee.{binary32, toBits};
 ghost use lib.ListN.{length, set};
 ghost use lib.Seq.{sets};
-ghost use Rattle.command.specs.Commands.{onto};
+ghost use Rattle.command.specs.Buffers.{onto};
 ghost use Rattle.judge.specs.Lists.{placeOf};
 ghost use Rattle.plate_print.specs.Lines.{digitOf, leadingDigit, leading, column, columns, line, numbersLine, refusalText, listLines, listText};
 
@@ -122,7 +122,7 @@ fn put_commands(codes: &[u8], numbers: &[f32], out: &mut [u8]) -> usize
     let mut i: usize = 0;
     while i < codes.len() {
         let code = codes[i];
-        let n = judge::size_of_code(code);
+        let n = reader::size_of_code(code);
         at = put_numbers_line(out, at, code, &numbers[place..place + n]);
         place += n;
         i += 1;

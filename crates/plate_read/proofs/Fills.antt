@@ -10,7 +10,7 @@ use lib.ListN.{length, take, drop, set, length-drop, length-set, length-map}
 use lib.Seq.{drop-drop, sets, length-sets}
 use Rattle.command.specs.declared.Refusal.{Refusal}
 use Rattle.command.specs.declared.Refusal.the-variants.{TooMany, Unlisted}
-use Rattle.command.specs.Commands.{onto}
+use Rattle.command.specs.Buffers.{onto}
 use Rattle.command.proofs.Buffers.{sets-append, sets-onto}
 use Rattle.plate_read.specs.declared.Reading.{Reading}
 use Rattle.plate_read.specs.declared.Reading.the-variants.{Fault, Sound}

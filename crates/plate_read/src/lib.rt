@@ -7,7 +7,7 @@ ghost use Prim.Native.Nat.{_+_, _≤_};
 ghost use lib.Ieee.{ofBits, binary32};
 ghost use lib.ListN.{length, take, drop};
 ghost use lib.Seq.{sets};
-ghost use Rattle.command.specs.Commands.{onto};
+ghost use Rattle.command.specs.Buffers.{onto};
 ghost use Rattle.plate_read.specs.Text.{isDigit, unblanked, isField, fieldValue, lineForm, lineValues, mostVertices, readLines, readText, readingOf, numbersGiven};
 ghost use Rattle.plate_read.specs.Fields.{patternAfter, fieldPattern, inForm};
 

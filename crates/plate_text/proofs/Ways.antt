@@ -12,21 +12,22 @@ use borrow.Author.Tests.{le-leb}
 use Rattle.ieee.specs.Limit.{allWithin}
 use Rattle.command.specs.declared.PathCommand.{PathCommand}
 use Rattle.command.specs.declared.Refusal.{Refusal}
-use Rattle.command.specs.declared.Refusal.the-variants.{Empty, TooMany, OutOfRange, Unlisted, Unsupported, BrokenNesting, NotMergeable, TooShort, NoSuchCopy, NotFinite, BufferTooSmall, OutOfBounds}
-use Rattle.command.specs.declared.Drawn.{Drawn}
-use Rattle.command.specs.declared.Drawn.the-variants.{Refused as NotDrawn, Written}
-use Rattle.command.specs.Commands.{codesOf, numbersOf, onto, commandLimit}
+use Rattle.command.specs.declared.Counts.{Counts}
+use Rattle.command.specs.declared.Counts.the-variants.{Refused as NotDrawn, Of}
+use Rattle.command.specs.Commands.{codesOf, numbersOf, commandLimit}
 use Rattle.command.specs.Refusals.{refusalNumber}
-use Rattle.command.specs.Outcomes.{Outcome, refused, drawn, numberOf, commandsOf, fitted, Filled, drawnNumber, drawnCodes, drawnNumbers}
+use Rattle.command.specs.Outcomes.{Outcome, refused, accepted, numberOf, mapped, listOf, countsNumber, firstCount, secondCount}
+use Rattle.command.specs.Buffers.{onto, inBuffers, fitted, Filled, FilledBoth}
+use Rattle.command.proofs.Outcomes.{refused-accepted, number-some, answered}
 use Rattle.command.proofs.Passes.{codes-length}
 use Rattle.path.specs.Path.{pathCommands}
 use Rattle.path.proofs.Counts.{path-codes, path-numbers}
 use Rattle.draw.specs.Paths.{drawPath}
 use Rattle.draw.proofs.Sources.{drawn-path}
 use Rattle.draw.proofs.Sound.{drawn-path-sound}
-use Rattle.judge.specs.declared.Judged.the-variants.{Sound}
-use Rattle.judge.specs.Lists.{readList, judgeList, judgedOf, placeOf}
-use Rattle.judge.proofs.Lists.{list-judged, sound-written, sound-read}
+use Rattle.judge.specs.Lists.{judgeList, placeOf}
+use Rattle.judge.proofs.Ways.{judged-read}
+use Rattle.judge.proofs.Lists.{list-judged, read-written}
 use Rattle.measure.specs.Length.{pathLength}
 use Rattle.length.specs.declared.Measured.{Measured}
 use Rattle.length.specs.declared.Measured.the-variants.{Refused, Length}
@@ -48,117 +49,110 @@ module _ (t t' : List ℕ) (e : t ≡ t') where
   put out out' out-is = out-is ∙ ap (λ (l : List ℕ). onto l out) e
 
 -- ---- print_measured
-abbrev IsLength : Measured → Type 0
-IsLength (Refused r) = ⊥
-IsLength (Length x) = Unit {0}
+-- what is measured was accepted
+measured-list : (o : Outcome (List PathCommand)) (x : Float) → mapped pathLength o ≡ accepted x → o ≡ accepted (listOf o)
+measured-list (refused r) x e = refused-accepted r x e
+measured-list (accepted cs) x e = refl
 
-measured-sound : (o : Outcome) (x : Float) → measuredOf o ≡ Length x → judgedOf o ≡ Sound
-unfolding measuredOf judgedOf
-measured-sound (refused r) x e = absurd (subst IsLength (sym e) tt)
-measured-sound (drawn cs) x e = refl
+module _ (codes : List ℕ) (numbers : List Float) (m : Measured) (m-is : measuredOf m ≡ measureList codes numbers) (out out' : List ℕ) (n : ℕ) where
+  abbrev text : List ℕ
+  text = measuredText codes numbers (measureList codes numbers)
 
-module _ (codes : List ℕ) (numbers : List Float) (m : Measured) (m-is : m ≡ measureList codes numbers) (out out' : List ℕ) (n : ℕ) where
   module _ (r : Refusal) (e : m ≡ Refused r) where
-    refusal-measured : refusalText r ≡ measuredText codes numbers (measureList codes numbers)
+    refusal-measured : refusalText r ≡ text
     unfolding measuredText
-    refusal-measured = ap (measuredText codes numbers) (sym e ∙ m-is)
+    refusal-measured = ap (measuredText codes numbers) (sym (ap measuredOf e) ∙ m-is)
 
-    pub measured-refusal-count : n ≡ length (refusalText r) → n ≡ length (measuredText codes numbers (measureList codes numbers))
-    measured-refusal-count = counted (refusalText r) (measuredText codes numbers (measureList codes numbers)) refusal-measured n
+    pub measured-refusal-count : n ≡ length (refusalText r) → n ≡ length text
+    measured-refusal-count = counted (refusalText r) text refusal-measured n
 
-    pub measured-refusal-put : out' ≡ onto (refusalText r) out → out' ≡ onto (measuredText codes numbers (measureList codes numbers)) out
-    measured-refusal-put = put (refusalText r) (measuredText codes numbers (measureList codes numbers)) refusal-measured out out'
+    pub measured-refusal-put : out' ≡ onto (refusalText r) out → out' ≡ onto text out
+    measured-refusal-put = put (refusalText r) text refusal-measured out out'
 
   module _ (x : Float) (e : m ≡ Length x) where
-    sound : judgedOf (judgeList codes numbers) ≡ Sound
-    unfolding measureList
-    sound = measured-sound (judgeList codes numbers) x (sym m-is ∙ e)
+    told : accepted x ≡ measureList codes numbers
+    told = sym (ap measuredOf e) ∙ m-is
 
     pub measured-there : placeOf (length codes) codes ≤ length numbers
+    unfolding measureList
     measured-there =
-        let o = readList codes numbers in
-        let w = sound-written codes numbers (ap judgedOf (sym (sound-read codes numbers sound)) ∙ sound) in
-        let there : placeOf (length codes) codes ≡ length numbers =
-        sym (λ i. placeOf (length (w .0 i)) (w .0 i)) ∙ numbers-there (commandsOf o) ∙ ap length (w .1) in
+        let cs = listOf (judgeList codes numbers) in
+        let w = read-written codes numbers cs (judged-read codes numbers cs (measured-list (judgeList codes numbers) x (sym told)) .1) in
+        let there : placeOf (length codes) codes ≡ length numbers = sym (λ i. placeOf (length (w .0 i)) (w .0 i)) ∙ numbers-there cs ∙ ap length (w .1) in
         omega arith
 
-    list-measured : listText codes numbers x ≡ measuredText codes numbers (measureList codes numbers)
+    list-measured : listText codes numbers x ≡ text
     unfolding measuredText
-    list-measured = ap (measuredText codes numbers) (sym e ∙ m-is)
+    list-measured = ap (measuredText codes numbers) told
 
-    pub measured-count : n ≡ length (listText codes numbers x) → n ≡ length (measuredText codes numbers (measureList codes numbers))
-    measured-count = counted (listText codes numbers x) (measuredText codes numbers (measureList codes numbers)) list-measured n
+    pub measured-count : n ≡ length (listText codes numbers x) → n ≡ length text
+    measured-count = counted (listText codes numbers x) text list-measured n
 
-    pub measured-put : out' ≡ onto (listText codes numbers x) out → out' ≡ onto (measuredText codes numbers (measureList codes numbers)) out
-    measured-put = put (listText codes numbers x) (measuredText codes numbers (measureList codes numbers)) list-measured out out'
+    pub measured-put : out' ≡ onto (listText codes numbers x) out → out' ≡ onto text out
+    measured-put = put (listText codes numbers x) text list-measured out out'
 
 pub ruleset measuring = (measured-refusal-count, measured-refusal-put, measured-there, measured-count, measured-put)
 
 -- ---- print_drawn
 -- a path of at most 256 vertices fits the program's buffers
-path-fits : (closed : ℕ) (v : List Float) (count : ℕ) → count ≤ 256 → fitted 258 1538 (drawPath closed v count) ≡ drawPath closed v count
+path-fits : (closed : ℕ) (v : List Float) (count : ℕ) → count ≤ 256 → fitted (inBuffers 258 1538) (drawPath closed v count) ≡ drawPath closed v count
 unfolding fitted
 path-fits closed v count few = go (drawPath closed v count) refl
   where
-    go : (o : Outcome) → drawPath closed v count ≡ o → fitted 258 1538 o ≡ o
+    go : (o : Outcome (List PathCommand)) → drawPath closed v count ≡ o → fitted (inBuffers 258 1538) o ≡ o
     go (refused r) e = refl
-    go (drawn cs) e =
+    go (accepted cs) e =
         let s = drawn-path closed v count cs e in
         let a : length (codesOf cs) ≤ 258 = rw (s .2) (omega (arith, path-codes closed v count (s .0))) in
         let b : length (numbersOf cs) ≤ 1538 = rw (s .2) (omega (arith, path-numbers closed v count (s .0))) in
         rw (le-leb (length (codesOf cs)) 258 a, le-leb (length (numbersOf cs)) 1538 b)
 
--- no refusal has the number 0
-abbrev number-some : (r : Refusal) → 0 < refusalNumber r
-number-some Empty = omega arith
-number-some TooMany = omega arith
-number-some OutOfRange = omega arith
-number-some Unlisted = omega arith
-number-some Unsupported = omega arith
-number-some BrokenNesting = omega arith
-number-some NotMergeable = omega arith
-number-some TooShort = omega arith
-number-some NoSuchCopy = omega arith
-number-some NotFinite = omega arith
-number-some BufferTooSmall = omega arith
-number-some OutOfBounds = omega arith
-
 -- a refusal is printed by its number
-refusal-text : (r : Refusal) (o : Outcome) → refusalNumber r ≡ numberOf o → refusalText r ≡ drawnText o
+refusal-text : (r : Refusal) (o : Outcome (List PathCommand)) → refusalNumber r ≡ numberOf o → refusalText r ≡ drawnText o
 unfolding refusalText drawnText
 refusal-text r (refused r') e = ap (λ (n : ℕ). line 8 (n ∷ [])) e
-refusal-text r (drawn cs) e = let h = number-some r in absurd (omega arith)
-
-answered : (o : Outcome) → 0 ≡ numberOf o → drawn (commandsOf o) ≡ o
-answered (refused r) e = let h = number-some r in absurd (omega arith)
-answered (drawn cs) e = refl
+refusal-text r (accepted cs) e = let h = number-some r in absurd (omega arith)
 
 -- sound commands, measured and printed
-list-length : (cs : List PathCommand) → length cs ≤ 262144 → allWithin commandLimit (numbersOf cs) ≡ true → measureList (codesOf cs) (numbersOf cs) ≡ Length (pathLength cs)
-unfolding measureList measuredOf
-list-length cs few within = ap measuredOf (list-judged cs few within)
+list-length : (cs : List PathCommand) → length cs ≤ 262144 → allWithin commandLimit (numbersOf cs) ≡ true → measureList (codesOf cs) (numbersOf cs) ≡ accepted (pathLength cs)
+unfolding measureList
+list-length cs few within = ap (mapped pathLength) (list-judged cs few within)
 
 text-drawn : (cs : List PathCommand) → length cs ≤ 262144 → allWithin commandLimit (numbersOf cs) ≡ true
-    → measuredText (codesOf cs) (numbersOf cs) (measureList (codesOf cs) (numbersOf cs)) ≡ drawnText (drawn cs)
+    → measuredText (codesOf cs) (numbersOf cs) (measureList (codesOf cs) (numbersOf cs)) ≡ drawnText (accepted cs)
 unfolding measuredText drawnText
 text-drawn cs few within = ap (measuredText (codesOf cs) (numbersOf cs)) (list-length cs few within) ∙ list-answer cs (pathLength cs)
 
 pub room : (n m : ℕ) → n ≤ 258 → 17816 ≤ m → 69 * n + 14 ≤ m
 room n m h l = omega arith
 
-module _ (closed : ℕ) (v : List Float) (count : ℕ) (codes codes' : List ℕ) (numbers numbers' : List Float) (d : Drawn)
-    (filled : Filled (fitted (length codes) (length numbers) (drawPath closed v count)) (drawnNumber d) (drawnCodes d) (drawnNumbers d) codes codes' numbers numbers')
+module _ (closed : ℕ) (v : List Float) (count : ℕ) (codes codes' : List ℕ) (numbers numbers' : List Float) (d : Counts)
+    (filled : FilledBoth (fitted (inBuffers (length codes) (length numbers)) (drawPath closed v count)) (countsNumber d) (firstCount d) (secondCount d) codes codes' numbers numbers')
     (few : count ≤ 256) (long-codes : length codes ≡ 258) (long-numbers : length numbers ≡ 1538) where
-  abbrev o : Outcome
+  abbrev o : Outcome (List PathCommand)
   o = drawPath closed v count
 
-  fits : fitted (length codes) (length numbers) o ≡ o
-  fits = ap₂ (λ (a b : ℕ). fitted a b o) long-codes long-numbers ∙ path-fits closed v count few
+  fits : fitted (inBuffers (length codes) (length numbers)) o ≡ o
+  fits = ap₂ (λ (a b : ℕ). fitted (inBuffers a b) o) long-codes long-numbers ∙ path-fits closed v count few
+
+  -- the promise about each buffer, without the check that the drawing passes
+  in-codes : Filled (mapped codesOf o) (countsNumber d) (firstCount d) codes codes'
+  in-codes = subst (λ (p : Outcome (List PathCommand)). Filled (mapped codesOf p) (countsNumber d) (firstCount d) codes codes') fits (filled .codes-filled)
+
+  in-numbers : Filled (mapped numbersOf o) (countsNumber d) (secondCount d) numbers numbers'
+  in-numbers = subst (λ (p : Outcome (List PathCommand)). Filled (mapped numbersOf p) (countsNumber d) (secondCount d) numbers numbers') fits (filled .numbers-filled)
+
+  number-is : countsNumber d ≡ numberOf o
+  number-is = in-codes .number-is ∙ go o
+    where
+      go : (p : Outcome (List PathCommand)) → numberOf (mapped codesOf p) ≡ numberOf p
+      go (refused r) = refl
+      go (accepted cs) = refl
 
   module _ (out out' : List ℕ) (n : ℕ) where
     module _ (r : Refusal) (e : d ≡ NotDrawn r) where
       refusal-drawn : refusalText r ≡ drawnText o
-      refusal-drawn = refusal-text r o (sym (ap drawnNumber e) ∙ filled .number-is ∙ ap numberOf fits)
+      refusal-drawn = refusal-text r o (sym (ap countsNumber e) ∙ number-is)
 
       pub drawn-refusal-count : n ≡ length (refusalText r) → n ≡ length (drawnText o)
       drawn-refusal-count = counted (refusalText r) (drawnText o) refusal-drawn n
@@ -166,42 +160,48 @@ module _ (closed : ℕ) (v : List Float) (count : ℕ) (codes codes' : List ℕ)
       pub drawn-refusal-put : out' ≡ onto (refusalText r) out → out' ≡ onto (drawnText o) out
       drawn-refusal-put = put (refusalText r) (drawnText o) refusal-drawn out out'
 
-  module _ (i j : ℕ) (e : d ≡ Written i j) where
+  module _ (i j : ℕ) (e : d ≡ Of i j) where
     abbrev cs : List PathCommand
-    cs = commandsOf o
+    cs = listOf o
 
-    is-drawn : drawn cs ≡ o
-    is-drawn = answered o (sym (ap drawnNumber e) ∙ filled .number-is ∙ ap numberOf fits)
+    is-drawn : o ≡ accepted cs
+    is-drawn = answered o (sym (ap countsNumber e) ∙ number-is) []
 
     splits : (0 < count) × (count ≤ 1024) × (cs ≡ pathCommands closed v count)
-    splits = drawn-path closed v count cs (sym is-drawn)
+    splits = drawn-path closed v count cs is-drawn
+
+    codes-written : listOf (mapped codesOf o) ≡ codesOf cs
+    codes-written = ap (λ (p : Outcome (List PathCommand)). listOf (mapped codesOf p)) is-drawn
+
+    numbers-written : listOf (mapped numbersOf o) ≡ numbersOf cs
+    numbers-written = ap (λ (p : Outcome (List PathCommand)). listOf (mapped numbersOf p)) is-drawn
 
     codes-count-is : i ≡ length (codesOf cs)
-    codes-count-is = sym (ap drawnCodes e) ∙ filled .codes-count ∙ ap (λ (p : Outcome). length (codesOf (commandsOf p))) fits
+    codes-count-is = sym (ap firstCount e) ∙ in-codes .count-is ∙ ap length codes-written
 
     numbers-count-is : j ≡ length (numbersOf cs)
-    numbers-count-is = sym (ap drawnNumbers e) ∙ filled .numbers-count ∙ ap (λ (p : Outcome). length (numbersOf (commandsOf p))) fits
+    numbers-count-is = sym (ap secondCount e) ∙ in-numbers .count-is ∙ ap length numbers-written
+
+    codes-content : codes' ≡ onto (codesOf cs) codes
+    codes-content = in-codes .content-is ∙ ap (λ (l : List ℕ). onto l codes) codes-written
+
+    numbers-content : numbers' ≡ onto (numbersOf cs) numbers
+    numbers-content = in-numbers .content-is ∙ ap (λ (l : List Float). onto l numbers) numbers-written
 
     codes-few : i ≤ 258
     codes-few = rw (codes-count-is, splits .2) (omega (arith, path-codes closed v count (splits .0)))
 
     pub codes-inside : i ≤ length codes'
-    codes-inside = rw (codes-count-is, filled .codes-filled, ap (λ (p : Outcome). onto (codesOf (commandsOf p)) codes) fits, length-append (codesOf cs) (drop (length (codesOf cs)) codes)) (omega arith)
+    codes-inside = rw (codes-count-is, codes-content, length-append (codesOf cs) (drop (length (codesOf cs)) codes)) (omega arith)
 
     pub numbers-inside : j ≤ length numbers'
-    numbers-inside = rw (numbers-count-is, filled .numbers-filled, ap (λ (p : Outcome). onto (numbersOf (commandsOf p)) numbers) fits, length-append (numbersOf cs) (drop (length (numbersOf cs)) numbers)) (omega arith)
+    numbers-inside = rw (numbers-count-is, numbers-content, length-append (numbersOf cs) (drop (length (numbersOf cs)) numbers)) (omega arith)
 
     codes-are : take i codes' ≡ codesOf cs
-    codes-are =
-        (λ k. take (codes-count-is k) (filled .codes-filled k))
-        ∙ ap (λ (p : Outcome). take (length (codesOf cs)) (onto (codesOf (commandsOf p)) codes)) fits
-        ∙ take-append-seam (codesOf cs) (drop (length (codesOf cs)) codes)
+    codes-are = (λ k. take (codes-count-is k) (codes-content k)) ∙ take-append-seam (codesOf cs) (drop (length (codesOf cs)) codes)
 
     numbers-are : take j numbers' ≡ numbersOf cs
-    numbers-are =
-        (λ k. take (numbers-count-is k) (filled .numbers-filled k))
-        ∙ ap (λ (p : Outcome). take (length (numbersOf cs)) (onto (numbersOf (commandsOf p)) numbers)) fits
-        ∙ take-append-seam (numbersOf cs) (drop (length (numbersOf cs)) numbers)
+    numbers-are = (λ k. take (numbers-count-is k) (numbers-content k)) ∙ take-append-seam (numbersOf cs) (drop (length (numbersOf cs)) numbers)
 
     pub codes-most : length (take i codes') ≤ 258
     codes-most = let a = codes-few in let b = codes-count-is in rw codes-are (omega arith)
@@ -213,8 +213,8 @@ module _ (closed : ℕ) (v : List Float) (count : ℕ) (codes codes' : List ℕ)
         let c = codes-length cs in
         let small : length cs ≤ 262144 = omega arith in
         (λ k. measuredText (codes-are k) (numbers-are k) (measureList (codes-are k) (numbers-are k)))
-        ∙ text-drawn cs small (drawn-path-sound closed v count cs (sym is-drawn))
-        ∙ ap drawnText is-drawn
+        ∙ text-drawn cs small (drawn-path-sound closed v count cs is-drawn)
+        ∙ ap drawnText (sym is-drawn)
 
     pub drawn-count : (n : ℕ) → n ≡ length (measuredText (take i codes') (take j numbers') (measureList (take i codes') (take j numbers'))) → n ≡ length (drawnText o)
     drawn-count = counted (measuredText (take i codes') (take j numbers') (measureList (take i codes') (take j numbers'))) (drawnText o) measured-drawn

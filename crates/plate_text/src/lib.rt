@@ -1,11 +1,11 @@
 // The program `plate` as a function: a text is read, its path drawn and measured, and the answer printed.
-use command::Drawn;
+use command::Counts;
 use length::Measured;
 use plate_read::Reading;
 ghost use mathlib.Core.Path.{_≡_};
 ghost use Prim.Native.Nat.{_+_, _*_, _≤_};
 ghost use lib.ListN.{length};
-ghost use Rattle.command.specs.Commands.{onto};
+ghost use Rattle.command.specs.Buffers.{onto};
 ghost use Rattle.draw.specs.Paths.{drawPath};
 ghost use Rattle.length.specs.Lists.{measureList};
 ghost use Rattle.plate_text.specs.Plate.{drawnText, plateText, measuredText};
@@ -31,8 +31,8 @@ fn print_drawn(closed: u32, vertices: &[f32], count: usize, out: &mut [u8]) -> u
     let mut codes = [0; 258];
     let mut numbers = [0.0; 1538];
     match draw::draw_path(closed, vertices, count, &mut codes, &mut numbers) {
-        Drawn::Refused(refusal) => plate_print::print_refusal(refusal, out),
-        Drawn::Written(n, m) => print_measured(&codes[..n], &numbers[..m], out),
+        Counts::Refused(refusal) => plate_print::print_refusal(refusal, out),
+        Counts::Of(n, m) => print_measured(&codes[..n], &numbers[..m], out),
     }
 }
 

@@ -11,26 +11,35 @@ use Rattle.ieee.specs.Remainder.{remEuclid}
 use Rattle.ieee.specs.Root.{hypotOf, isqrt}
 use Rattle.ieee.specs.Whole.{roundAway}
 use Rattle.path.specs.Path.{bezierSegment}
-use Rattle.rect.specs.Rect.{rectCorners, rectPath}
+use Rattle.rect.specs.Bounds.{rectBounds}
+use Rattle.rect.specs.Rect.{cornerRadius, rectPath}
 use Rattle.draw.specs.Paths.{drawPath}
 use Rattle.draw.specs.Items.{drawItem}
 use Rattle.curve.specs.Curve.{distance}
 use Rattle.measure.specs.Length as measure
-use Rattle.judge.specs.Lists.{sizeOfCode, commandAt, before, readList, judgeList}
-use Rattle.length.specs.Lists.{measuredOf, measureList}
+use Rattle.reader.specs.Read.{sizeOfCode, commandAt, commandChecks, readCommand}
+use Rattle.judge.specs.Lists.{before, readList, judgeList}
+use Rattle.length.specs.Lists.{measureList}
 use Rattle.trim.specs.Trim.{offsetOf, placedAt, snapped, near, nearBoth, isWhole, rangesBetween, lower, upper, normalizedTrimSegments, isFullTrimSegments}
 use Rattle.cut.specs.Calls.{isFiniteTrim, trimRanges}
 use Rattle.cut.specs.Answers.{rangesAnswer}
 use Rattle.repeater.specs.Matrix.{concat, preTranslate, preScale}
 use Rattle.repeater.specs.Repeater as repeater
 use Rattle.copies.specs.Order.{rising, falling, orderOf, copyOrder}
-use Rattle.copies.specs.Calls.{hasTooMany, verdictOf, after, orderAnswer, copyNumbers, allFinite, finiteAnswer, copyAnswer, transformAnswer}
+use Rattle.copies.specs.Calls.{hasTooMany, repeaterChecks, orderAnswer, copyNumbers, allFinite, copyAnswer, transformAnswer}
 use Rattle.plates.specs.Calls.{answer}
 use Rattle.plates.specs.Plates.{tinyBack, hundredth, quarter, half, threeQuarters, minusTen, minusOne, twoAndAHalf, three, four, ten, twelve, fourteen, n25, n75, n90, n180, starred}
 
 -- what the calls answer to the inputs, one after another, is the outputs
 pub all-answered : map (λ p. answer (p .input)) starred ≡ map (λ p. p .output) starred
-unfolding sub mul div le ofInt ofBits min max clamp fma remEuclid hypotOf isqrt roundAway bezierSegment rectCorners rectPath drawPath drawItem distance measure.startPen measure.moveTo measure.lineTo measure.close measure.step measure.steps measure.lengthAfter measure.pathLength sizeOfCode commandAt before readList judgeList measuredOf measureList offsetOf placedAt snapped near nearBoth isWhole rangesBetween lower upper normalizedTrimSegments isFullTrimSegments isFiniteTrim trimRanges rangesAnswer concat preTranslate preScale repeater.copyCount repeater.stepScale repeater.stepShift repeater.stepMatrix repeater.stepTransform repeater.steps repeater.iterationTransform repeater.copyTransform repeater.opacityOf repeater.copyOpacity rising falling orderOf copyOrder hasTooMany verdictOf after orderAnswer copyNumbers allFinite finiteAnswer copyAnswer transformAnswer
+unfolding sub mul div le ofInt ofBits min max clamp fma remEuclid hypotOf isqrt roundAway
+    bezierSegment rectBounds cornerRadius rectPath drawPath drawItem
+    distance measure.startPen measure.moveTo measure.lineTo measure.close measure.step measure.steps measure.lengthAfter measure.pathLength
+    sizeOfCode commandAt commandChecks readCommand before readList judgeList measureList
+    offsetOf placedAt snapped near nearBoth isWhole rangesBetween lower upper normalizedTrimSegments isFullTrimSegments isFiniteTrim trimRanges rangesAnswer
+    concat preTranslate preScale repeater.copyCount repeater.stepScale repeater.stepShift repeater.stepMatrix repeater.stepTransform
+    repeater.steps repeater.iterationTransform repeater.copyTransform repeater.opacityOf repeater.copyOpacity
+    rising falling orderOf copyOrder hasTooMany repeaterChecks orderAnswer copyNumbers allFinite copyAnswer transformAnswer
 all-answered = refl
 
 -- numerator / denominator, and its negative, to the nearest f32

@@ -3,17 +3,18 @@ use Prim.Native.Nat.{ℕ}
 use mathlib.Core.List.{List, [], _∷_, _++_, map}
 use lib.Ieee.{Float, binary32, ofBits}
 use Rattle.ieee.specs.Literal.{zero32, one32, hundred32}
+use Rattle.command.specs.Outcomes.{Outcome, accepted}
 use Rattle.copies.specs.Order.{rising}
 use Rattle.plates.specs.Calls.{Input, trim, rectangle, path, order, copy, Output, ranges, ofLength, commands, ordered, copied}
 
--- the paper's plate: what is asked, and what is to be answered
-pub record Plate : Type 0 where
+-- what is asked, and what is to be answered: none of them is refused
+pub record Example : Type 0 where
   pub input : Input
-  pub output : Output
+  pub output : Outcome Output
 
-infix 10 _gives_
-abbrev pub _gives_ : Input → Output → Plate
-i gives o = record { input = i; output = o }
+infix 10 _yields_
+abbrev pub _yields_ : Input → Output → Example
+i yields o = record { input = i; output = accepted o }
 
 -- The numbers of the list, each as the bit pattern of the f32 nearest to its decimal. This one is -0.0000001.
 abbrev pub tinyBack : Float
@@ -81,32 +82,32 @@ abbrev pub notWhole : ℕ
 notWhole = 0
 
 -- Trim (start, end, offset)
-abbrev pub trims : List Plate
+abbrev pub trims : List Example
 trims =
     -- 0, 100, 0 whole
-    (trim zero32 hundred32 zero32 gives ranges 1 (zero32 ∷ one32 ∷ []) whole)
+    (trim zero32 hundred32 zero32 yields ranges 1 (zero32 ∷ one32 ∷ []) whole)
     -- 25, 75, 0 gives (0.25, 0.75)
-    ∷ (trim n25 n75 zero32 gives ranges 1 (quarter ∷ threeQuarters ∷ []) notWhole)
+    ∷ (trim n25 n75 zero32 yields ranges 1 (quarter ∷ threeQuarters ∷ []) notWhole)
     -- 0, 100, 90 gives (0.25, 1), (0, 0.25)
-    ∷ (trim zero32 hundred32 n90 gives ranges 2 (quarter ∷ one32 ∷ zero32 ∷ quarter ∷ []) notWhole)
+    ∷ (trim zero32 hundred32 n90 yields ranges 2 (quarter ∷ one32 ∷ zero32 ∷ quarter ∷ []) notWhole)
     -- 0, 100, 180 gives (0.5, 1), (0, 0.5), not whole
-    ∷ (trim zero32 hundred32 n180 gives ranges 2 (half ∷ one32 ∷ zero32 ∷ half ∷ []) notWhole)
+    ∷ (trim zero32 hundred32 n180 yields ranges 2 (half ∷ one32 ∷ zero32 ∷ half ∷ []) notWhole)
     -- 25, 75, -0.0000001 gives (0.25, 0.75)
-    ∷ (trim n25 n75 tinyBack gives ranges 1 (quarter ∷ threeQuarters ∷ []) notWhole)
+    ∷ (trim n25 n75 tinyBack yields ranges 1 (quarter ∷ threeQuarters ∷ []) notWhole)
     -- 0, 0.01, 0 nothing
-    ∷ (trim zero32 hundredth zero32 gives ranges 0 [] notWhole)
+    ∷ (trim zero32 hundredth zero32 yields ranges 0 [] notWhole)
     ∷ []
 
 -- a vertex without tangents
 abbrev pub corner : Float → Float → List Float
 corner x y = x ∷ y ∷ zero32 ∷ zero32 ∷ zero32 ∷ zero32 ∷ []
 
-abbrev pub shapes : List Plate
+abbrev pub shapes : List Example
 shapes =
     -- Rectangle 3 by 4 at 0, no roundness: length 14
-    (rectangle zero32 zero32 three four zero32 gives ofLength fourteen)
+    (rectangle zero32 zero32 three four zero32 yields ofLength fourteen)
     -- Closed (0,0), (3,0), (3,4), no tangents: five commands, length 12
-    ∷ (path 1 (corner zero32 zero32 ++ corner three zero32 ++ corner three four) 3 gives commands 5 twelve)
+    ∷ (path 1 (corner zero32 zero32 ++ corner three zero32 ++ corner three four) 3 yields commands 5 twelve)
     ∷ []
 
 -- A repeater that does not scale or turn and whose anchor is 0: so many copies from an offset on, each moved on by a position, of opacity 1.
@@ -117,11 +118,11 @@ repeater copies offset x y = copies ∷ offset ∷ zero32 ∷ zero32 ∷ x ∷ y
 abbrev pub twoAndAHalfCopies : List Float
 twoAndAHalfCopies = repeater twoAndAHalf zero32 zero32 zero32
 
-abbrev pub reversedIn : ℕ → Plate
-reversedIn mode = order twoAndAHalfCopies mode gives ordered (2 ∷ 1 ∷ 0 ∷ [])
+abbrev pub reversedIn : ℕ → Example
+reversedIn mode = order twoAndAHalfCopies mode yields ordered (2 ∷ 1 ∷ 0 ∷ [])
 
-abbrev pub orders : List Plate
-orders = (order twoAndAHalfCopies 1 gives ordered (0 ∷ 1 ∷ 2 ∷ [])) ∷ map reversedIn (0 ∷ rising 2 254)
+abbrev pub orders : List Example
+orders = (order twoAndAHalfCopies 1 yields ordered (0 ∷ 1 ∷ 2 ∷ [])) ∷ map reversedIn (0 ∷ rising 2 254)
 
 -- the numbers of a copy that is shifted only, and of opacity 1
 abbrev pub shifted : Float → Float → Output
@@ -131,13 +132,13 @@ shifted x y = copied (one32 ∷ zero32 ∷ zero32 ∷ one32 ∷ x ∷ y ∷ one3
 abbrev pub threeCopies : List Float
 threeCopies = repeater three minusOne ten zero32
 
-abbrev pub shifts : List Plate
+abbrev pub shifts : List Example
 shifts =
-    (copy threeCopies 1 0 gives shifted minusTen zero32)
-    ∷ (copy threeCopies 1 1 gives shifted zero32 zero32)
-    ∷ (copy threeCopies 1 2 gives shifted ten zero32)
+    (copy threeCopies 1 0 yields shifted minusTen zero32)
+    ∷ (copy threeCopies 1 1 yields shifted zero32 zero32)
+    ∷ (copy threeCopies 1 2 yields shifted ten zero32)
     ∷ []
 
 -- all of them
-abbrev pub starred : List Plate
+abbrev pub starred : List Example
 starred = trims ++ shapes ++ orders ++ shifts

@@ -8,7 +8,7 @@ use lib.Ieee.{Float}
 use Rattle.ieee.specs.Operators.{_⊕_}
 use Rattle.ieee.specs.Limit.{Bounded}
 use Rattle.ieee.proofs.Bounds.{bounded-finite}
-use Rattle.curve.specs.declared.Point.{Point}
+use Rattle.point.specs.declared.Point.{Point}
 use Rattle.curve.specs.Curve.{distance, chords}
 use Rattle.curve.proofs.Rising.{Inside}
 use Rattle.polyline.specs.Polyline.{pointAt, FiniteTo}

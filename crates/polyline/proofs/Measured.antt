@@ -11,7 +11,7 @@ use borrow.Author.Count.{below-more}
 use Rattle.ieee.specs.Literal.{zero32}
 use Rattle.ieee.specs.Operators.{_⊕_, _⊖_}
 use Rattle.ieee.specs.Root.{hypotOf}
-use Rattle.curve.specs.declared.Point.{Point}
+use Rattle.point.specs.declared.Point.{Point}
 use Rattle.curve.specs.Curve.{distance, chords}
 use Rattle.polyline.specs.Polyline.{pointAt, sumOf}
 

@@ -7,7 +7,7 @@ use lib.Ieee.{Float, nan}
 use lib.Ieee.Scale.{finite}
 use Rattle.ieee.specs.Literal.{zero32}
 use Rattle.ieee.specs.Operators.{_⊕_}
-use Rattle.curve.specs.declared.Point.{Point}
+use Rattle.point.specs.declared.Point.{Point}
 
 -- the point of index k
 abbrev pub pointAt : List Float → List Float → ℕ → Point

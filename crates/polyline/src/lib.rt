@@ -9,7 +9,7 @@ ghost use Rattle.ieee.specs.Operators.{_⊖_};
 ghost use Rattle.ieee.specs.Root.{hypotOf};
 ghost use Rattle.curve.specs.Curve.{distance, chords};
 ghost use Rattle.polyline.specs.Polyline.{pointAt, FiniteTo, sumOf};
-use curve::Point;
+use point::Point;
 
 // A candidate for a chord's length, and whether it is in doubt: 1 where it is, else 0.
 struct Chord {

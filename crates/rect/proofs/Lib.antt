@@ -1,5 +1,7 @@
 -- What the proofs of `rect` cite.
+pub mod Box
 pub mod Enlarged
+pub mod Numbers
 pub mod Sound
 pub mod Single
 pub mod Ways

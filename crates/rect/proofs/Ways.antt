@@ -5,25 +5,31 @@ use mathlib.Core.List.{List}
 use Prim.Native.Nat.{ℕ, suc, _≤_}
 use native.Mathlib.Omega.{arith}
 use lib.ListN.{length, getD}
-use lib.Ieee.{Float, le, mul, neg, binary32}
+use lib.Ieee.{Float, le, neg, binary32}
 use Rattle.ieee.specs.Literal.{zero32}
+use Rattle.ieee.specs.Operators.{_⊕_, _⊗_}
 use Rattle.ieee.specs.Sign.{abs}
 use Rattle.ieee.specs.Choice.{min, clamp}
 use Rattle.ieee.specs.Fused.{fma}
 use Rattle.command.specs.declared.PathCommand.{PathCommand}
 use Rattle.command.specs.declared.PathCommand.the-variants.{Close}
 use Rattle.command.proofs.Passes.{closes}
-use Rattle.rect.specs.declared.Corners.{Corners}
-use Rattle.ieee.specs.Operators.{_⊕_}
-use Rattle.rect.specs.Rect.{half, epsilon, rectCorners, plainRect, roundRect, rectPath}
+use Rattle.command.specs.Commands.{numbersOf}
+use Rattle.rect.specs.declared.Bounds.{Bounds}
+use Rattle.rect.specs.Bounds.{half, rectBounds}
+use Rattle.rect.specs.Rect.{epsilon, cornerRadius, plainRect, roundRect, rectPath}
 
--- ---- rect_corners
-pub corners-are : (cx cy w h roundness width height left top small radius : Float)
-    → width ≡ abs w → height ≡ abs h → left ≡ fma binary32 width (neg half) cx → top ≡ fma binary32 height (neg half) cy → small ≡ min width height
-    → radius ≡ clamp zero32 (mul binary32 small half) roundness
-    → _≡_ {A = Corners} (record { left = left; top = top; right = left ⊕ width; bottom = top ⊕ height; radius = radius }) (rectCorners cx cy w h roundness)
-unfolding rectCorners
-corners-are cx cy w h roundness width height left top small radius a b l t s r = rw (r, s, l, t, a, b)
+-- ---- rect_bounds and corner_radius
+pub bounds-are : (cx cy w h width height left top : Float)
+    → width ≡ abs w → height ≡ abs h → left ≡ fma binary32 width (neg half) cx → top ≡ fma binary32 height (neg half) cy
+    → _≡_ {A = Bounds} (record { left = left; top = top; right = left ⊕ width; bottom = top ⊕ height }) (rectBounds cx cy w h)
+unfolding rectBounds
+bounds-are cx cy w h width height left top a b l t = rw (l, t, a, b)
+
+pub radius-is : (w h roundness width height smaller radius : Float)
+    → width ≡ abs w → height ≡ abs h → smaller ≡ min width height → radius ≡ clamp zero32 (smaller ⊗ half) roundness → radius ≡ cornerRadius w h roundness
+unfolding cornerRadius
+radius-is w h roundness width height smaller radius a b s r = rw (← a, ← b, ← s) r
 
 -- ---- the commands
 -- the command at a place whose number is known, and past the last of them
@@ -34,34 +40,43 @@ at-known l n k r h e = rw h e
 next : {n k : ℕ} → n ≤ k → (k ≡ n → ⊥) → suc n ≤ k
 next h g = omega arith
 
-module _ (c : Corners) (k : ℕ) (a0 : k ≡ 0 → ⊥) (a1 : k ≡ 1 → ⊥) (a2 : k ≡ 2 → ⊥) (a3 : k ≡ 3 → ⊥) where
+module _ (box : Bounds) (k : ℕ) (a0 : k ≡ 0 → ⊥) (a1 : k ≡ 1 → ⊥) (a2 : k ≡ 2 → ⊥) (a3 : k ≡ 3 → ⊥) where
   four : 4 ≤ k
   four = omega arith
 
-  pub plain-past : Close ≡ getD (plainRect c) k Close
+  pub plain-past : Close ≡ getD (plainRect box) k Close
   unfolding plainRect
-  plain-past = sym (closes (plainRect c) 4 k refl four)
+  plain-past = sym (closes (plainRect box) 4 k refl four)
 
-  pub round-past : (k ≡ 4 → ⊥) → (k ≡ 5 → ⊥) → (k ≡ 6 → ⊥) → (k ≡ 7 → ⊥) → (k ≡ 8 → ⊥) → Close ≡ getD (roundRect c) k Close
+  pub round-past : (q : Float) → (k ≡ 4 → ⊥) → (k ≡ 5 → ⊥) → (k ≡ 6 → ⊥) → (k ≡ 7 → ⊥) → (k ≡ 8 → ⊥) → Close ≡ getD (roundRect box q) k Close
   unfolding roundRect
-  round-past a4 a5 a6 a7 a8 =
-      sym (closes (roundRect c) 9 k refl (next (next (next (next (next four a4) a5) a6) a7) a8))
+  round-past q a4 a5 a6 a7 a8 =
+      sym (closes (roundRect box q) 9 k refl (next (next (next (next (next four a4) a5) a6) a7) a8))
 
-module _ (c : Corners) where
-  pub rect-plain : (k : ℕ) (r : PathCommand) → le (c .radius) (epsilon) ≡ true → r ≡ getD (plainRect c) k Close → r ≡ getD (rectPath c) k Close
+module _ (box : Bounds) (q : Float) (sharp : le q epsilon ≡ true) where
+  pub rect-plain : (k : ℕ) (r : PathCommand) → r ≡ getD (plainRect box) k Close → r ≡ getD (rectPath box q) k Close
   unfolding rectPath
-  rect-plain k r h e = rw h e
+  rect-plain k r e = rw sharp e
 
-  pub rect-round : (k : ℕ) (r : PathCommand) → le (c .radius) (epsilon) ≡ false → r ≡ getD (roundRect c) k Close → r ≡ getD (rectPath c) k Close
-  unfolding rectPath
-  rect-round k r h e = rw h e
-
-  pub five : le (c .radius) (epsilon) ≡ true → 5 ≡ length (rectPath c)
+  pub plain-count : 5 ≡ length (rectPath box q)
   unfolding rectPath plainRect
-  five h = rw h
+  plain-count = rw sharp
 
-  pub ten : le (c .radius) (epsilon) ≡ false → 10 ≡ length (rectPath c)
+  pub plain-numbers : 8 ≡ length (numbersOf (rectPath box q))
+  unfolding rectPath plainRect
+  plain-numbers = rw sharp
+
+module _ (box : Bounds) (q : Float) (round : le q epsilon ≡ false) where
+  pub rect-round : (k : ℕ) (r : PathCommand) → r ≡ getD (roundRect box q) k Close → r ≡ getD (rectPath box q) k Close
+  unfolding rectPath
+  rect-round k r e = rw round e
+
+  pub round-count : 10 ≡ length (rectPath box q)
   unfolding rectPath roundRect
-  ten h = rw h
+  round-count = rw round
 
-pub ruleset ways = (corners-are, at-known, plain-past, round-past, rect-plain, rect-round, five, ten)
+  pub round-numbers : 34 ≡ length (numbersOf (rectPath box q))
+  unfolding rectPath roundRect
+  round-numbers = rw round
+
+pub ruleset ways = (bounds-are, radius-is, at-known, plain-past, round-past, rect-plain, plain-count, plain-numbers, rect-round, round-count, round-numbers)

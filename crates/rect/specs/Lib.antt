@@ -1,2 +1,3 @@
--- The path of a rectangle.
+-- A box, and the path of a rectangle in it.
+pub mod Bounds
 pub mod Rect

@@ -1,19 +1,15 @@
--- A rectangle's corners and commands: `build_rect_path` after sampling, and `build_round_rect_path`, of drawing_paths.rs. Definitions only.
+-- The radius of a rectangle's corners, and its commands: `build_rect_path` after sampling, and `build_round_rect_path`, of drawing_paths.rs. Definitions only.
 use mathlib.Core.Bool.{cond}
 use mathlib.Core.List.{List, [], _∷_}
-use lib.Ieee.{Float, le, neg, ofBits, binary32}
+use lib.Ieee.{Float, le, ofBits, binary32}
 use Rattle.ieee.specs.Literal.{zero32, epsilon32}
 use Rattle.ieee.specs.Operators.{_⊕_, _⊖_, _⊗_}
 use Rattle.ieee.specs.Sign.{abs}
 use Rattle.ieee.specs.Choice.{min, clamp}
-use Rattle.ieee.specs.Fused.{fma}
 use Rattle.command.specs.declared.PathCommand.{PathCommand}
 use Rattle.command.specs.declared.PathCommand.the-variants.{Move, Line, Cubic, Close}
-use Rattle.rect.specs.declared.Corners.{Corners}
-
--- 0.5
-abbrev pub half : Float
-half = ofBits binary32 0x3f000000
+use Rattle.rect.specs.declared.Bounds.{Bounds}
+use Rattle.rect.specs.Bounds.{half}
 
 -- the f32 nearest to 0.5522848, `ROUND_RECT_KAPPA`
 abbrev pub roundRectKappa : Float
@@ -23,34 +19,24 @@ roundRectKappa = ofBits binary32 0x3f0d6289
 abbrev pub epsilon : Float
 epsilon = epsilon32
 
--- Width and height made positive; left and top by fused -0.5 times size plus centre; right is left + width, bottom is top + height;
--- the roundness clamped to 0 .. half the smaller side.
-unfoldable pub rectCorners : Float → Float → Float → Float → Float → Corners
-rectCorners cx cy w h roundness =
-    let left = fma binary32 (abs w) (neg half) cx in
-    let top = fma binary32 (abs h) (neg half) cy in
-    record {
-      left = left;
-      top = top;
-      right = left ⊕ abs w;
-      bottom = top ⊕ abs h;
-      radius = clamp zero32 (min (abs w) (abs h) ⊗ half) roundness;
-    }
+-- of a width, a height and a roundness: the roundness clamped to 0 .. half the smaller side
+unfoldable pub cornerRadius : Float → Float → Float → Float
+cornerRadius w h roundness = clamp zero32 (min (abs w) (abs h) ⊗ half) roundness
 
 -- sharp corners
-unfoldable pub plainRect : Corners → List PathCommand
-plainRect c =
-    Move (c .left) (c .top) ∷ Line (c .right) (c .top) ∷ Line (c .right) (c .bottom) ∷ Line (c .left) (c .bottom) ∷ Close ∷ []
+unfoldable pub plainRect : Bounds → List PathCommand
+plainRect box =
+    Move (box .left) (box .top) ∷ Line (box .right) (box .top) ∷ Line (box .right) (box .bottom) ∷ Line (box .left) (box .bottom) ∷ Close ∷ []
 
--- how far a corner's control points stand from its ends
-abbrev pub tangentOf : Corners → Float
-tangentOf c = c .radius ⊗ roundRectKappa
+-- how far the control points of a corner with this radius stand from its ends
+abbrev pub tangentOf : Float → Float
+tangentOf radius = radius ⊗ roundRectKappa
 
 -- round corners, in the order of `build_round_rect_path`
-unfoldable pub roundRect : Corners → List PathCommand
-roundRect c =
-    let l = c .left in let t = c .top in let r = c .right in let b = c .bottom in let q = c .radius in
-    let s = tangentOf c in
+unfoldable pub roundRect : Bounds → Float → List PathCommand
+roundRect box q =
+    let l = box .left in let t = box .top in let r = box .right in let b = box .bottom in
+    let s = tangentOf q in
     Move (l ⊕ q) t
     ∷ Line (r ⊖ q) t
     ∷ Cubic ((r ⊖ q) ⊕ s) t r ((t ⊕ q) ⊖ s) r (t ⊕ q)
@@ -64,6 +50,6 @@ roundRect c =
     ∷ []
 
 -- a radius of at most 2^-23 is a sharp corner
-unfoldable pub rectPath : Corners → List PathCommand
+unfoldable pub rectPath : Bounds → Float → List PathCommand
 unfolding plainRect roundRect
-rectPath c = cond (le (c .radius) epsilon) (plainRect c) (roundRect c)
+rectPath box radius = cond (le radius epsilon) (plainRect box) (roundRect box radius)

@@ -4,15 +4,17 @@ use command::PathCommand;
 ghost use mathlib.Core.Path.{_≡_};
 ghost use lib.ListN.{length, getD};
 ghost use Rattle.command.specs.declared.PathCommand.the-variants.{Close};
-ghost use Rattle.rect.specs.Rect.{rectCorners, plainRect, roundRect, rectPath};
+ghost use Rattle.command.specs.Commands.{numbersOf};
+ghost use Rattle.rect.specs.declared.Bounds.{Bounds};
+ghost use Rattle.rect.specs.Bounds.{rectBounds};
+ghost use Rattle.rect.specs.Rect.{cornerRadius, plainRect, roundRect, rectPath};
 
-// The sides of a rectangle, and the radius of its corners.
-pub struct Corners {
+// The sides of a box.
+pub struct Bounds {
     pub left: f32,
     pub top: f32,
     pub right: f32,
     pub bottom: f32,
-    pub radius: f32,
 }
 
 // ROUND_RECT_KAPPA of drawing_paths.rs.
@@ -21,75 +23,87 @@ const KAPPA: f32 = 0.5522848;
 // f32::EPSILON, 2^-23.
 const EPSILON: f32 = 0.00000011920929;
 
-// The corners of a rectangle with this centre, size and roundness.
-pub fn rect_corners(cx: f32, cy: f32, w: f32, h: f32, roundness: f32) -> Corners
-    ensures { λ r. ⌜ r ≡ rectCorners cx cy w h roundness ⌝ }
+// The sides of the box with this centre and size.
+pub fn rect_bounds(cx: f32, cy: f32, w: f32, h: f32) -> Bounds
+    ensures { λ r. ⌜ r ≡ rectBounds cx cy w h ⌝ }
 {
     let width = float::abs(w);
     let height = float::abs(h);
     let left = fused::mul_add(width, -0.5, cx);
     let top = fused::mul_add(height, -0.5, cy);
-    let radius = float::clamp(roundness, 0.0, float::min(width, height) * 0.5);
-    Corners {
+    Bounds {
         left,
         top,
         right: left + width,
         bottom: top + height,
-        radius,
     }
 }
 
+// The radius of the corners of a rectangle with this size and roundness.
+pub fn corner_radius(w: f32, h: f32, roundness: f32) -> f32
+    ensures { λ r. ⌜ r ≡ cornerRadius w h roundness ⌝ }
+{
+    let smaller = float::min(float::abs(w), float::abs(h));
+    float::clamp(roundness, 0.0, smaller * 0.5)
+}
+
 // The command at place k of a rectangle with sharp corners.
-fn plain_command(c: Corners, k: usize) -> PathCommand
-    ensures { λ r. ⌜ r ≡ getD (plainRect c) k Close ⌝ }
+fn plain_command(bounds: Bounds, k: usize) -> PathCommand
+    ensures { λ r. ⌜ r ≡ getD (plainRect bounds) k Close ⌝ }
 {
     match k {
-        0 => PathCommand::Move(c.left, c.top),
-        1 => PathCommand::Line(c.right, c.top),
-        2 => PathCommand::Line(c.right, c.bottom),
-        3 => PathCommand::Line(c.left, c.bottom),
+        0 => PathCommand::Move(bounds.left, bounds.top),
+        1 => PathCommand::Line(bounds.right, bounds.top),
+        2 => PathCommand::Line(bounds.right, bounds.bottom),
+        3 => PathCommand::Line(bounds.left, bounds.bottom),
         _ => PathCommand::Close,
     }
 }
 
 // The command at place k of a rectangle with round corners.
-fn round_command(c: Corners, k: usize) -> PathCommand
-    ensures { λ r. ⌜ r ≡ getD (roundRect c) k Close ⌝ }
+fn round_command(bounds: Bounds, radius: f32, k: usize) -> PathCommand
+    ensures { λ r. ⌜ r ≡ getD (roundRect bounds radius) k Close ⌝ }
 {
-    let q = c.radius;
-    let s = q * KAPPA;
-    let l = c.left + q;
-    let t = c.top + q;
-    let r = c.right - q;
-    let b = c.bottom - q;
+    let s = radius * KAPPA;
+    let l = bounds.left + radius;
+    let t = bounds.top + radius;
+    let r = bounds.right - radius;
+    let b = bounds.bottom - radius;
     match k {
-        0 => PathCommand::Move(l, c.top),
-        1 => PathCommand::Line(r, c.top),
-        2 => PathCommand::Cubic(r + s, c.top, c.right, t - s, c.right, t),
-        3 => PathCommand::Line(c.right, b),
-        4 => PathCommand::Cubic(c.right, b + s, r + s, c.bottom, r, c.bottom),
-        5 => PathCommand::Line(l, c.bottom),
-        6 => PathCommand::Cubic(l - s, c.bottom, c.left, b + s, c.left, b),
-        7 => PathCommand::Line(c.left, t),
-        8 => PathCommand::Cubic(c.left, t - s, l - s, c.top, l, c.top),
+        0 => PathCommand::Move(l, bounds.top),
+        1 => PathCommand::Line(r, bounds.top),
+        2 => PathCommand::Cubic(r + s, bounds.top, bounds.right, t - s, bounds.right, t),
+        3 => PathCommand::Line(bounds.right, b),
+        4 => PathCommand::Cubic(bounds.right, b + s, r + s, bounds.bottom, r, bounds.bottom),
+        5 => PathCommand::Line(l, bounds.bottom),
+        6 => PathCommand::Cubic(l - s, bounds.bottom, bounds.left, b + s, bounds.left, b),
+        7 => PathCommand::Line(bounds.left, t),
+        8 => PathCommand::Cubic(bounds.left, t - s, l - s, bounds.top, l, bounds.top),
         _ => PathCommand::Close,
     }
 }
 
 // The command at place k of a rectangle.
-pub fn rect_command(c: Corners, k: usize) -> PathCommand
-    ensures { λ r. ⌜ r ≡ getD (rectPath c) k Close ⌝ }
+pub fn rect_command(bounds: Bounds, radius: f32, k: usize) -> PathCommand
+    ensures { λ r. ⌜ r ≡ getD (rectPath bounds radius) k Close ⌝ }
 {
-    if c.radius <= EPSILON {
-        plain_command(c, k)
+    if radius <= EPSILON {
+        plain_command(bounds, k)
     } else {
-        round_command(c, k)
+        round_command(bounds, radius, k)
     }
 }
 
-// How many commands a rectangle has.
-pub fn rect_count(c: Corners) -> usize
-    ensures { λ r. ⌜ r ≡ length (rectPath c) ⌝ }
+// How many commands a rectangle has, whatever its box.
+pub fn rect_count(radius: f32) -> usize
+    ensures { λ r. ⌜ ((b : Bounds) → r ≡ length (rectPath b radius)) ⌝ }
 {
-    if c.radius <= EPSILON { 5 } else { 10 }
+    if radius <= EPSILON { 5 } else { 10 }
+}
+
+// How many numbers those commands have.
+pub fn rect_numbers(radius: f32) -> usize
+    ensures { λ r. ⌜ ((b : Bounds) → r ≡ length (numbersOf (rectPath b radius))) ⌝ }
+{
+    if radius <= EPSILON { 8 } else { 34 }
 }

@@ -1,4 +1,5 @@
 // The copies of a repeater: `repeater_transform_for_copy` of drawing_paths.rs and what it calls.
+use point::Point;
 ghost use mathlib.Core.Path.{_≡_};
 ghost use Prim.Native.Nat.{_^_, _≤_};
 ghost use mathlib.Core.Bool.{true};
@@ -11,20 +12,14 @@ ghost use Rattle.repeater.specs.Upright as upright;
 // f32::EPSILON, 2^-23.
 const EPSILON: f32 = 0.00000011920929;
 
-// Two numbers, one an axis.
-pub struct Pair {
-    pub x: f32,
-    pub y: f32,
-}
-
 // A repeater, sampled. Scales are in per cent, the rotation is in degrees.
 pub struct RepeaterStyle {
     pub copies: f32,
     pub offset: f32,
     pub mode: u8,
-    pub anchor: Pair,
-    pub position: Pair,
-    pub scale: Pair,
+    pub anchor: Point,
+    pub position: Point,
+    pub scale: Point,
     pub rotation: f32,
     pub start_opacity: f32,
     pub end_opacity: f32,

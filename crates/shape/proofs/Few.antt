@@ -6,18 +6,21 @@ use native.Mathlib.Omega.{arith}
 use lib.ListN.{length}
 use lib.Ieee.{Float, le}
 use Rattle.path.proofs.Paths.{pathCommands-few}
+use Rattle.rect.specs.declared.Bounds.{Bounds}
 use Rattle.rect.specs.Rect.{epsilon, rectPath, plainRect, roundRect}
-use Rattle.rect.specs.declared.Corners.{Corners}
 use Rattle.shape.specs.declared.Shape.{Shape}
 use Rattle.shape.specs.declared.Shape.the-variants.{Path, Rect}
-use Rattle.shape.specs.Shape.{shapeCommands, Fit}
+use Rattle.shape.specs.Shape.{boundsOf, shapeCommands, Fit}
 
-rect-few : (c : Corners) (b : Bool) → length (cond b (plainRect c) (roundRect c)) ≤ 1026
-unfolding plainRect roundRect
-rect-few c true = omega arith
-rect-few c false = omega arith
+rect-few : (box : Bounds) (radius : Float) → length (rectPath box radius) ≤ 1026
+unfolding rectPath plainRect roundRect
+rect-few box radius = go (le radius epsilon)
+  where
+    go : (b : Bool) → length (cond b (plainRect box) (roundRect box radius)) ≤ 1026
+    go true = omega arith
+    go false = omega arith
 
 pub few : (s : Shape) (v : List Float) → Fit s v → length (shapeCommands s v) ≤ 1026
-unfolding shapeCommands rectPath
+unfolding shapeCommands
 few (Path closed count) v f = pathCommands-few closed v count (f .some) (f .few)
-few (Rect c) v f = rect-few c (le (c .radius) (epsilon))
+few (Rect radius) v f = rect-few (boundsOf v) radius

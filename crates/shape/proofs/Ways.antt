@@ -1,5 +1,5 @@
 -- What each way out of a function of this crate owes, as the code meets it. Assumes nothing.
-use mathlib.Core.Path.{_≡_, refl, sym, ap, _∙_}
+use mathlib.Core.Path.{_≡_, sym, _∙_}
 use mathlib.Core.Bool.{Bool, true, false}
 use mathlib.Core.List.{List}
 use Prim.Native.Nat.{ℕ, _+_, _*_, _≤_, _<_}
@@ -14,128 +14,165 @@ use lib.ListN.{length, getD}
 use lib.Ieee.{Float}
 use Rattle.command.specs.declared.PathCommand.{PathCommand}
 use Rattle.command.specs.declared.PathCommand.the-variants.{Close}
-use Rattle.command.specs.Commands.{coordinatesOf, codesOf, numbersOf}
-use Rattle.command.specs.Outcomes.{Filled, drawn, fitted}
-use Rattle.command.proofs.Passes.{counts, codes-length, numbers-few}
-use Rattle.command.proofs.Writes.{writes}
-use Rattle.command.proofs.Buffers.{sets-onto, unfilled}
 use Rattle.command.specs.declared.Refusal.the-variants.{BufferTooSmall}
-use Rattle.path.specs.Path.{pathCommands, bezierPath, verticesOf, bezierCount, Sound}
+use Rattle.command.specs.Commands.{coordinatesOf, codesOf, numbersOf}
+use Rattle.command.specs.Outcomes.{accepted}
+use Rattle.command.specs.Buffers.{fitted, inBuffers, FilledBoth, roomOf}
+use Rattle.command.proofs.Passes.{counts, codes-length}
+use Rattle.command.proofs.Writes.{writes}
+use Rattle.command.proofs.Buffers.{fitted-accepted, fitted-refused, filled, both-unfilled}
+use Rattle.path.specs.Path.{bezierPath, verticesOf, bezierCount, pathCommands}
 use Rattle.path.proofs.Paths.{pathCommands-length}
 use Rattle.path.proofs.Counts.{path-numbers}
+use Rattle.rect.specs.declared.Bounds.{Bounds}
 use Rattle.rect.specs.Rect.{rectPath}
-use Rattle.rect.specs.declared.Corners.{Corners}
 use Rattle.shape.specs.declared.Shape.{Shape}
 use Rattle.shape.specs.declared.Shape.the-variants.{Path, Rect}
-use Rattle.shape.specs.Shape.{shapeCommands, Fit}
+use Rattle.shape.specs.Shape.{boundsOf, shapeCommands, Fit}
 use Rattle.shape.proofs.Few.{few}
 
-module _ (s : Shape) (v : List Float) (fit : Fit s v) where
-  module _ (closed count : ℕ) (is : s ≡ Path closed count) where
-    pub path-sound : Sound v count
-    path-sound = rw is at fit
+-- ---- a path
+module _ (closed count : ℕ) (v : List Float) (fit : Fit (Path closed count) v) where
+  pub path-count : (n : ℕ) → n ≡ bezierCount closed count → n ≡ length (shapeCommands (Path closed count) v)
+  unfolding shapeCommands
+  path-count n e = e ∙ sym (pathCommands-length closed v count (fit .some))
 
-    pub path-few : count ≤ 1024
-    path-few = path-sound .few
-
-    pub path-count : (n : ℕ) → n ≡ bezierCount closed count → n ≡ length (shapeCommands s v)
-    unfolding shapeCommands
-    path-count n e = rw is (e ∙ sym (pathCommands-length closed v count (path-sound .some)))
-
-    pub path-command : (k : ℕ) (r : PathCommand) → k < length (shapeCommands s v)
-        → ((c : Bool) → k < length (bezierPath c (verticesOf count v)) → r ≡ getD (bezierPath c (verticesOf count v)) k Close) → r ≡ getD (shapeCommands s v) k Close
+  module _ (k : ℕ) (inside : k < length (shapeCommands (Path closed count) v)) where
+    pub path-command : (r : PathCommand)
+        → ((c : Bool) → k < length (bezierPath c (verticesOf count v)) → r ≡ getD (bezierPath c (verticesOf count v)) k Close)
+        → r ≡ getD (shapeCommands (Path closed count) v) k Close
     unfolding shapeCommands pathCommands
-    path-command k r h f = rw is (f _ (rw is at h))
+    path-command r f = f _ inside
 
-    pub path-size : (k m : ℕ) → k < length (shapeCommands s v)
+    pub path-size : (m : ℕ)
         → ((c : Bool) → k < length (bezierPath c (verticesOf count v)) → m ≡ length (coordinatesOf (getD (bezierPath c (verticesOf count v)) k Close)))
-        → m ≡ length (coordinatesOf (getD (shapeCommands s v) k Close))
+        → m ≡ length (coordinatesOf (getD (shapeCommands (Path closed count) v) k Close))
     unfolding shapeCommands pathCommands
-    path-size k m h f = rw is (f _ (rw is at h))
+    path-size m f = f _ inside
 
-  module _ (c : Corners) (is : s ≡ Rect c) where
-    pub rect-count : (n : ℕ) → n ≡ length (rectPath c) → n ≡ length (shapeCommands s v)
-    unfolding shapeCommands
-    rect-count n e = rw is e
+  pub path-enough : length (numbersOf (shapeCommands (Path closed count) v)) ≤ 6 * count + 2
+  unfolding shapeCommands
+  path-enough = path-numbers closed v count (fit .some)
 
-    pub rect-command : (k : ℕ) (r : PathCommand) → r ≡ getD (rectPath c) k Close → r ≡ getD (shapeCommands s v) k Close
-    unfolding shapeCommands
-    rect-command k r e = rw is e
+pub path-fit : (s : Shape) (v : List Float) (closed count : ℕ) → s ≡ Path closed count → Fit s v → Fit (Path closed count) v
+path-fit s v closed count is fit = rw is at fit
 
-    pub rect-size : (k m : ℕ) (r : PathCommand) → r ≡ getD (rectPath c) k Close → m ≡ length (coordinatesOf r)
-        → m ≡ length (coordinatesOf (getD (shapeCommands s v) k Close))
-    rect-size k m r e f = f ∙ ap (λ (x : PathCommand). length (coordinatesOf x)) (rect-command k r e)
+pub path-few : (s : Shape) (v : List Float) (closed count : ℕ) → s ≡ Path closed count → Fit s v → count ≤ 1024
+path-few s v closed count is fit = path-fit s v closed count is fit .few
 
--- ---- enough_for, numbers_fit and draw_shape
-module _ (s : Shape) (v : List Float) (fit : Fit s v) where
-  module _ (closed count : ℕ) (is : s ≡ Path closed count) where
-    pub six-fits : (k : ℕ) → k ≤ 6 → Fits w64 (k * count)
-    six-fits k h = record { fits = lt-of-le-of-lt (mul-le-mul-right count h) (omega (arith, path-few s v fit closed count is)) }
+module _ (count : ℕ) (small : count ≤ 1024) (k : ℕ) (h : k ≤ 6) where
+  pub six-fits : Fits w64 (k * count)
+  six-fits = record { fits = lt-of-le-of-lt (mul-le-mul-right count h) (omega arith) }
 
-    pub two-more-fit : (k : ℕ) → k ≤ 6 → Fits w64 (k * count + 2)
-    two-more-fit k h = record { fits = omega (arith, mul-le-mul-right count h, path-few s v fit closed count is) }
+  pub two-more-fit : Fits w64 (k * count + 2)
+  two-more-fit = record { fits = omega (arith, mul-le-mul-right count h) }
 
-    pub path-enough : length (numbersOf (shapeCommands s v)) ≤ 6 * count + 2
-    unfolding shapeCommands
-    path-enough = rw is (path-numbers closed v count (path-sound s v fit closed count is .some))
+-- ---- a rectangle
+module _ (radius : Float) (v : List Float) where
+  pub rect-count : (n : ℕ) → ((b : Bounds) → n ≡ length (rectPath b radius)) → n ≡ length (shapeCommands (Rect radius) v)
+  unfolding shapeCommands
+  rect-count n f = f _
 
-  module _ (c : Corners) (is : s ≡ Rect c) (n : ℕ) (n-is : n ≡ length (rectPath c)) where
-    rect-commands : n ≡ length (shapeCommands s v)
-    rect-commands = rect-count s v fit c is n n-is
+  pub rect-numbers : (m : ℕ) → ((b : Bounds) → m ≡ length (numbersOf (rectPath b radius))) → m ≡ length (numbersOf (shapeCommands (Rect radius) v))
+  unfolding shapeCommands
+  rect-numbers m f = f _
 
-    pub rect-fits : (k : ℕ) → k ≤ 6 → Fits w64 (k * n)
-    rect-fits k h = record { fits = lt-of-le-of-lt (mul-le-mul-right n h) (omega (arith, rect-commands, few s v fit)) }
+  pub rect-command : (k : ℕ) (r : PathCommand) (b : Bounds) → b ≡ boundsOf v
+      → r ≡ getD (rectPath b radius) k Close → r ≡ getD (shapeCommands (Rect radius) v) k Close
+  unfolding shapeCommands
+  rect-command k r b e f = rw (← e) f
 
-    pub rect-enough : length (numbersOf (shapeCommands s v)) ≤ 6 * n
-    rect-enough = omega (arith, rect-commands, numbers-few (shapeCommands s v))
+pub rect-fit : (s : Shape) (v : List Float) (radius : Float) → s ≡ Rect radius → Fit s v → Fit (Rect radius) v
+rect-fit s v radius is fit = rw is at fit
 
-  pub room-enough : (n room : ℕ) → length (numbersOf (shapeCommands s v)) ≤ n → n ≤ room → true ≡ leb (length (numbersOf (shapeCommands s v))) room
-  room-enough n room e h = sym (le-leb (length (numbersOf (shapeCommands s v))) room (omega arith))
+-- ---- the arms of a match on the kind: room for a shape is room for the kind that it is, and what that kind has and writes the shape has and writes
+module _ (s t : Shape) (is : s ≡ t) (v : List Float) where
+  pub count-is : (n : ℕ) → n ≡ length (shapeCommands t v) → n ≡ length (shapeCommands s v)
+  count-is n e = rw is e
+
+  pub numbers-are : (n : ℕ) → n ≡ length (numbersOf (shapeCommands t v)) → n ≡ length (numbersOf (shapeCommands s v))
+  numbers-are n e = rw is e
+
+  pub enough : (n : ℕ) → length (numbersOf (shapeCommands t v)) ≤ n → length (numbersOf (shapeCommands s v)) ≤ n
+  enough n h = rw is h
+
+  module _ (i : ℕ) where
+    pub codes-room : (n : ℕ) → i + length (codesOf (shapeCommands s v)) ≤ n → i + length (codesOf (shapeCommands t v)) ≤ n
+    codes-room n h = rw is at h
+
+    pub numbers-room : (n : ℕ) → i + length (numbersOf (shapeCommands s v)) ≤ n → i + length (numbersOf (shapeCommands t v)) ≤ n
+    numbers-room n h = rw is at h
+
+    pub place-is : (n : ℕ) → n ≡ i + length (numbersOf (shapeCommands t v)) → n ≡ i + length (numbersOf (shapeCommands s v))
+    place-is n e = rw is e
+
+    pub codes-are : (codes codes' : List ℕ) → codes' ≡ sets codes i (codesOf (shapeCommands t v)) → codes' ≡ sets codes i (codesOf (shapeCommands s v))
+    codes-are codes codes' e = rw is e
+
+    pub written : (numbers numbers' : List Float) → numbers' ≡ sets numbers i (numbersOf (shapeCommands t v))
+        → numbers' ≡ sets numbers i (numbersOf (shapeCommands s v))
+    written numbers numbers' e = rw is e
+
+pub exact-enough : (a n : ℕ) → n ≡ a → a ≤ n
+exact-enough a n e = omega arith
+
+-- all that the loops over a path and over a rectangle ask, and all that the matches on the kind ask
+pub ruleset path-loops = (path-count, path-command, path-size, counts, writes, few)
+
+pub ruleset rect-loops = (rect-count, rect-command, writes)
+
+pub ruleset path-arms = (path-fit, path-few, path-count, six-fits, two-more-fit, path-enough)
+
+pub ruleset rect-arms = (rect-fit, rect-count, rect-numbers, exact-enough)
+
+pub ruleset arms = (path-arms, rect-arms, count-is, numbers-are, enough, codes-room, numbers-room, place-is, codes-are, written)
+
+-- ---- need_of and numbers_fit
+pub room-is : (cs : List PathCommand) (n m : ℕ) → n ≡ length cs → m ≡ length (numbersOf cs) → accepted (n, m) ≡ accepted (roomOf cs)
+room-is cs n m e f = rw (codes-length cs, ← e, ← f)
+
+pub room-enough : (a n room : ℕ) → a ≤ n → n ≤ room → true ≡ leb a room
+room-enough a n room e h = sym (le-leb a room (omega arith))
 
 pub room-leb : (a b m : ℕ) → m ≡ a → leb m b ≡ leb a b
 room-leb a b m e = rw e
 
+-- ---- draw_shape
 module _ (cs : List PathCommand) (codes : List ℕ) (numbers : List Float) (n : ℕ) (n-is : n ≡ length cs) where
-  pub codes-short : length codes < n → Filled (fitted (length codes) (length numbers) (drawn cs)) 11 0 0 codes codes numbers numbers
-  unfolding fitted
+  pub codes-short : length codes < n → FilledBoth (fitted (inBuffers (length codes) (length numbers)) (accepted cs)) 11 0 0 codes codes numbers numbers
   codes-short h =
-      rw (lt-leb (length (codesOf cs)) (length codes) (omega (arith, codes-length cs)))
-      (unfilled BufferTooSmall codes numbers)
+      rw (fitted-refused (inBuffers (length codes) (length numbers)) cs (rw (lt-leb (length (codesOf cs)) (length codes) (omega (arith, codes-length cs)))))
+      (both-unfilled BufferTooSmall codes numbers)
 
   module _ (h : n ≤ length codes) (t : Bool) (t-is : t ≡ leb (length (numbersOf cs)) (length numbers)) where
-    abbrev codes-room : length (codesOf cs) ≤ length codes
-    codes-room = omega (arith, codes-length cs)
+    codes-inside : length (codesOf cs) ≤ length codes
+    codes-inside = omega (arith, codes-length cs)
 
-    pub numbers-short : t ≡ false → Filled (fitted (length codes) (length numbers) (drawn cs)) 11 0 0 codes codes numbers numbers
-    unfolding fitted
+    fits-as : inBuffers (length codes) (length numbers) cs ≡ t
+    fits-as = rw (le-leb (length (codesOf cs)) (length codes) codes-inside) (sym t-is)
+
+    pub numbers-short : t ≡ false → FilledBoth (fitted (inBuffers (length codes) (length numbers)) (accepted cs)) 11 0 0 codes codes numbers numbers
     numbers-short e =
-        rw (le-leb (length (codesOf cs)) (length codes) codes-room, ← t-is, e)
-        (unfilled BufferTooSmall codes numbers)
+        rw (fitted-refused (inBuffers (length codes) (length numbers)) cs (fits-as ∙ e)) (both-unfilled BufferTooSmall codes numbers)
 
     pub codes-fit : 0 + length (codesOf cs) ≤ length codes
     codes-fit = omega (arith, codes-length cs)
 
     module _ (e : t ≡ true) where
-      numbers-room : length (numbersOf cs) ≤ length numbers
-      numbers-room = leb-true (length (numbersOf cs)) (length numbers) (sym t-is ∙ e)
+      numbers-inside : length (numbersOf cs) ≤ length numbers
+      numbers-inside = leb-true (length (numbersOf cs)) (length numbers) (sym t-is ∙ e)
 
       pub numbers-fit : 0 + length (numbersOf cs) ≤ length numbers
-      numbers-fit = omega (arith, numbers-room)
+      numbers-fit = omega (arith, numbers-inside)
 
       pub all-written : (m : ℕ) (codes' : List ℕ) (numbers' : List Float) → m ≡ 0 + length (numbersOf cs)
           → codes' ≡ sets codes 0 (codesOf cs) → numbers' ≡ sets numbers 0 (numbersOf cs)
-          → Filled (fitted (length codes) (length numbers) (drawn cs)) 0 n m codes codes' numbers numbers'
-      unfolding fitted
+          → FilledBoth (fitted (inBuffers (length codes) (length numbers)) (accepted cs)) 0 n m codes codes' numbers numbers'
       all-written m codes' numbers' q c d =
-          rw (le-leb (length (codesOf cs)) (length codes) codes-room, ← t-is, e)
+          rw (fitted-accepted (inBuffers (length codes) (length numbers)) cs (fits-as ∙ e))
           (record {
-            number-is = refl;
-            codes-count = n-is ∙ sym (codes-length cs);
-            numbers-count = q ∙ zero-add _;
-            codes-filled = c ∙ sets-onto (codesOf cs) codes codes-room;
-            numbers-filled = d ∙ sets-onto (numbersOf cs) numbers numbers-room;
+            codes-filled = filled (codesOf cs) codes codes' n codes-inside (n-is ∙ sym (codes-length cs)) c;
+            numbers-filled = filled (numbersOf cs) numbers numbers' m numbers-inside (q ∙ zero-add _) d;
           })
 
-pub ruleset ways = (path-sound, path-few, path-count, path-command, path-size, rect-count, rect-command, rect-size, counts, writes, few)
-
-pub ruleset drawn-ways = (six-fits, two-more-fit, path-enough, rect-fits, rect-enough, room-enough, room-leb, codes-short, numbers-short, codes-fit, numbers-fit, all-written)
+pub ruleset drawings = (room-is, room-enough, room-leb, codes-short, numbers-short, codes-fit, numbers-fit, all-written)

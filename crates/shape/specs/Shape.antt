@@ -1,18 +1,26 @@
 -- What a shape draws. Definitions only.
+use Prim.Native.Nat.{_≤_}
 use mathlib.Core.List.{List}
-use lib.Ieee.{Float}
+use lib.Ieee.{Float, nan}
+use lib.ListN.{length, getD}
 use Rattle.command.specs.declared.PathCommand.{PathCommand}
 use Rattle.path.specs.Path.{pathCommands, Sound}
+use Rattle.rect.specs.declared.Bounds.{Bounds}
+use Rattle.rect.specs.Bounds.{rectBounds}
 use Rattle.rect.specs.Rect.{rectPath}
 use Rattle.shape.specs.declared.Shape.{Shape}
 use Rattle.shape.specs.declared.Shape.the-variants.{Path, Rect}
 
--- the commands of a shape whose vertices are the first ones of v
+-- the box whose centre and size are the first four numbers of v
+abbrev pub boundsOf : List Float → Bounds
+boundsOf v = rectBounds (getD v 0 nan) (getD v 1 nan) (getD v 2 nan) (getD v 3 nan)
+
+-- the commands of a shape whose numbers are the first ones of v: six a vertex, or centre and size
 unfoldable pub shapeCommands : Shape → List Float → List PathCommand
 shapeCommands (Path closed count) v = pathCommands closed v count
-shapeCommands (Rect c) v = rectPath c
+shapeCommands (Rect radius) v = rectPath (boundsOf v) radius
 
 -- what the checks leave to the drawing of a shape
 abbrev pub Fit : Shape → List Float → Type 0
 Fit (Path closed count) v = Sound v count
-Fit (Rect c) v = Unit
+Fit (Rect radius) v = 4 ≤ length v

@@ -2,7 +2,7 @@
 // behind.
 // tools/draw_vectors.py makes the lines and says how they read.
 ghost use Prim.Native.Nat.{_<_};
-use command::Need;
+use command::Counts;
 use libc::STDIN_FILENO;
 use libc::STDOUT_FILENO;
 
@@ -81,10 +81,10 @@ fn print_room(codes: usize, numbers: usize) {
     io::write_all(STDOUT_FILENO, b"\n");
 }
 
-fn print_need(need: Need) {
+fn print_need(need: Counts) {
     match need {
-        Need::Refused(refusal) => pattern_text::print_refusal(command::refusal_number(refusal)),
-        Need::Room(codes, numbers) => print_room(codes, numbers),
+        Counts::Refused(refusal) => pattern_text::print_refusal(command::refusal_number(refusal)),
+        Counts::Of(codes, numbers) => print_room(codes, numbers),
     }
 }
 

@@ -1,7 +1,7 @@
 // Runs the vectors of lengths and single commands: reads calls from standard input, one a line, and writes what each answers.
 // tools/length_vectors.py makes the lines and says how they read.
 ghost use Prim.Native.Nat.{_<_};
-use judge::Found;
+use command::Counts;
 use length::Measured;
 use libc::STDIN_FILENO;
 use libc::STDOUT_FILENO;
@@ -27,10 +27,10 @@ fn print_places(start: usize, count: usize) {
     io::write_all(STDOUT_FILENO, b"\n");
 }
 
-fn print_found(found: Found) {
+fn print_found(found: Counts) {
     match found {
-        Found::Refused(refusal) => pattern_text::print_refusal(command::refusal_number(refusal)),
-        Found::At(start, count) => print_places(start, count),
+        Counts::Refused(refusal) => pattern_text::print_refusal(command::refusal_number(refusal)),
+        Counts::Of(start, count) => print_places(start, count),
     }
 }
 

@@ -4,6 +4,9 @@ use borrow.Author.Needs.{needs}
 use Rattle.draw.proofs.check_source.Statement.{statement}
 use Rattle.draw.proofs.check_source.Tie as tie
 
+is-held-back-requires : tie.Need-is-held-back-requires
+is-held-back-requires c κs = search needs
+
 returns : tie.Need-returns
 returns c = search (needs, sources)
 
@@ -47,7 +50,7 @@ all-within-requires : tie.Need-all-within-requires
 all-within-requires c κs = search needs
 
 shape-of-requires : tie.Need-shape-of-requires
-shape-of-requires c κs = search needs
+shape-of-requires c κs = (search (needs, sources), search needs, search (needs, sources))
 
 returns-6 : tie.Need-returns-6
 returns-6 c = search (needs, sources)
@@ -59,6 +62,7 @@ pub check-source-spec : {M : Type 1} → statement M
 check-source-spec =
     tie.close
     (tie.spec
+    is-held-back-requires
     returns
     has-no-vertices-requires
     returns-2

@@ -1,6 +1,6 @@
 -- `item::is_listed` meets its contract. Assumes nothing.
-use borrow.Author.Needs.{needs}
 use Rattle.item.proofs.Ways.{rules}
+use borrow.Author.Needs.{needs}
 use Rattle.item.proofs.is_listed.Statement.{statement}
 use Rattle.item.proofs.is_listed.Tie as tie
 
@@ -13,8 +13,8 @@ returns-2 c = search (needs, rules)
 returns-3 : tie.Need-returns-3
 returns-3 c = search (needs, rules)
 
-mark-limit-requires : tie.Need-mark-limit-requires
-mark-limit-requires c κs = search (needs, rules)
+is-mark-requires : tie.Need-is-mark-requires
+is-mark-requires c κs = search needs
 
 returns-4 : tie.Need-returns-4
 returns-4 c = search (needs, rules)
@@ -27,5 +27,4 @@ returns-6 c = search (needs, rules)
 
 pub is-listed-spec : {M : Type 1} → statement M
 is-listed-spec =
-    tie.close
-    (tie.spec returns returns-2 returns-3 mark-limit-requires returns-4 returns-5 returns-6)
+    tie.close (tie.spec returns returns-2 returns-3 is-mark-requires returns-4 returns-5 returns-6)

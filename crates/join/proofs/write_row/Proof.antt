@@ -1,30 +1,35 @@
 -- `join::write_row` meets its contract. Assumes nothing.
-use Prim.Native.Nat.{_≤_}
-use lib.ListN.{length}
 use borrow.Author.Needs.{needs}
-use Rattle.join.proofs.Ways.{row-writes}
+use Rattle.draw.proofs.Ways.{sound-place}
+use Rattle.join.proofs.Ways.{row-writes, row-not-refused}
 use Rattle.join.proofs.write_row.Statement.{statement}
 use Rattle.join.proofs.write_row.Tie as tie
 
 is-source-requires : tie.Need-is-source-requires
-is-source-requires c κs = search (needs, row-writes)
+is-source-requires c κs = search needs
 
 shape-of-requires : tie.Need-shape-of-requires
-shape-of-requires c κs = search (needs, row-writes)
+shape-of-requires c κs = (search (needs, row-writes), search (needs, row-writes), search (needs, row-writes))
 
-mul-vertices : tie.Need-mul-vertices
-mul-vertices c =
-    let h : c .before .before .before .before .before .before .args .row .place ≤ length (c .before .before .before .before .before .before .args .items .now) = search (needs, row-writes) in
+enum-told : tie.Need-enum-told
+enum-told c = search needs
+
+enum-known-place : tie.Need-enum-known-place
+enum-known-place c = search needs
+
+mul-list : tie.Need-mul-list
+mul-list c =
+    let h = sound-place _ (c .before .before .before .before .before .before .before .before .before .args .items .now) _ _ (c .before .place .given .1) (search needs) in
     search needs
 
-sub-vertices : tie.Need-sub-vertices
-sub-vertices c = search (needs, row-writes)
+sub-list : tie.Need-sub-list
+sub-list c = search (needs, row-writes)
 
-part-vertices-start : tie.Need-part-vertices-start
-part-vertices-start c = search (needs, row-writes)
+part-list-start : tie.Need-part-list-start
+part-list-start c = search (needs, row-writes)
 
-part-vertices-end : tie.Need-part-vertices-end
-part-vertices-end c = search (needs, row-writes)
+part-list-end : tie.Need-part-list-end
+part-list-end c = search needs
 
 write-at-requires : tie.Need-write-at-requires
 write-at-requires c κs = search (needs, row-writes)
@@ -32,20 +37,25 @@ write-at-requires c κs = search (needs, row-writes)
 count-of-requires : tie.Need-count-of-requires
 count-of-requires c κs = search (needs, row-writes)
 
-add-t15 : tie.Need-add-t15
-add-t15 c = search (needs, row-writes)
-
-same-length : tie.Need-same-length
-same-length c = search (needs, row-writes)
-
-same-length-2 : tie.Need-same-length-2
-same-length-2 c = search (needs, row-writes)
+add-t17 : tie.Need-add-t17
+add-t17 c = search (needs, row-writes)
 
 returns : tie.Need-returns
-returns c = (search (needs, row-writes), (search (needs, row-writes), (search (needs, row-writes), search (needs, row-writes))))
+returns c =
+    row-not-refused (c .before .before .before .before .before .before .before .before .args .row) (c .before .before .before .before .before .before .before .before .args .items .now) _ (c .before .before .before .before .is-source .ensures) (search needs) (search needs) _
+    (c .before .before .shape-of .ensures .0) _ (c .enum-told .given .1)
+
+same-length : tie.Need-same-length
+same-length c = search needs
+
+same-length-2 : tie.Need-same-length-2
+same-length-2 c = search needs
 
 returns-2 : tie.Need-returns-2
 returns-2 c = (search (needs, row-writes), (search (needs, row-writes), (search (needs, row-writes), search (needs, row-writes))))
+
+returns-3 : tie.Need-returns-3
+returns-3 c = (search (needs, row-writes), (search (needs, row-writes), (search (needs, row-writes), search (needs, row-writes))))
 
 pub write-row-spec : {M : Type 1} → statement M
 write-row-spec =
@@ -53,14 +63,17 @@ write-row-spec =
     (tie.spec
     is-source-requires
     shape-of-requires
-    mul-vertices
-    sub-vertices
-    part-vertices-start
-    part-vertices-end
+    enum-told
+    enum-known-place
+    mul-list
+    sub-list
+    part-list-start
+    part-list-end
     write-at-requires
     count-of-requires
-    add-t15
+    add-t17
+    returns
     same-length
     same-length-2
-    returns
-    returns-2)
+    returns-2
+    returns-3)

@@ -5,13 +5,13 @@ use Rattle.judge.proofs.command_fault.Statement.{statement}
 use Rattle.judge.proofs.command_fault.Tie as tie
 
 find-command-requires : tie.Need-find-command-requires
-find-command-requires c κs = search (needs, parts)
+find-command-requires c κs = search needs
 
-found-number-requires : tie.Need-found-number-requires
-found-number-requires c κs = search (needs, parts)
+counts-number-requires : tie.Need-counts-number-requires
+counts-number-requires c κs = search needs
 
 returns : tie.Need-returns
 returns c = search (needs, parts)
 
 pub command-fault-spec : {M : Type 1} → statement M
-command-fault-spec = tie.close (tie.spec find-command-requires found-number-requires returns)
+command-fault-spec = tie.close (tie.spec find-command-requires counts-number-requires returns)

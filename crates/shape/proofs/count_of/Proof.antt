@@ -1,5 +1,5 @@
 -- `shape::count_of` meets its contract. Assumes nothing.
-use Rattle.shape.proofs.Ways.{ways}
+use Rattle.shape.proofs.Ways.{arms}
 use borrow.Author.Needs.{needs}
 use Rattle.shape.proofs.count_of.Statement.{statement}
 use Rattle.shape.proofs.count_of.Tie as tie
@@ -8,7 +8,7 @@ enum-known-shape : tie.Need-enum-known-shape
 enum-known-shape c = search needs
 
 bezier-count-requires : tie.Need-bezier-count-requires
-bezier-count-requires c κs = search (needs, ways)
+bezier-count-requires c κs = search (needs, arms)
 
 enum-known-shape-2 : tie.Need-enum-known-shape-2
 enum-known-shape-2 c = search needs
@@ -17,10 +17,10 @@ rect-count-requires : tie.Need-rect-count-requires
 rect-count-requires c κs = search needs
 
 returns : tie.Need-returns
-returns c = search (needs, ways)
+returns c = search (needs, arms)
 
 returns-2 : tie.Need-returns-2
-returns-2 c = search (needs, ways)
+returns-2 c = search (needs, arms)
 
 pub count-of-spec : {M : Type 1} → statement M
 count-of-spec =

@@ -1,5 +1,5 @@
 -- `shape::enough_for` meets its contract. Assumes nothing.
-use Rattle.shape.proofs.Ways.{drawn-ways}
+use Rattle.shape.proofs.Ways.{arms}
 use borrow.Author.Needs.{needs}
 use Rattle.shape.proofs.enough_for.Statement.{statement}
 use Rattle.shape.proofs.enough_for.Tie as tie
@@ -8,25 +8,22 @@ enum-known-shape : tie.Need-enum-known-shape
 enum-known-shape c = search needs
 
 mul-result : tie.Need-mul-result
-mul-result c = search (needs, drawn-ways)
+mul-result c = search (needs, arms)
 
 add-result : tie.Need-add-result
-add-result c = search (needs, drawn-ways)
+add-result c = search (needs, arms)
 
 enum-known-shape-2 : tie.Need-enum-known-shape-2
 enum-known-shape-2 c = search needs
 
-rect-count-requires : tie.Need-rect-count-requires
-rect-count-requires c κs = search needs
-
-mul-result-2 : tie.Need-mul-result-2
-mul-result-2 c = search (needs, drawn-ways)
+rect-numbers-requires : tie.Need-rect-numbers-requires
+rect-numbers-requires c κs = search needs
 
 returns : tie.Need-returns
-returns c = search (needs, drawn-ways)
+returns c = search (needs, arms)
 
 returns-2 : tie.Need-returns-2
-returns-2 c = search (needs, drawn-ways)
+returns-2 c = search (needs, arms)
 
 pub enough-for-spec : {M : Type 1} → statement M
 enough-for-spec =
@@ -36,7 +33,6 @@ enough-for-spec =
     mul-result
     add-result
     enum-known-shape-2
-    rect-count-requires
-    mul-result-2
+    rect-numbers-requires
     returns
     returns-2)

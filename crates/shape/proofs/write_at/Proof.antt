@@ -1,75 +1,50 @@
 -- `shape::write_at` meets its contract. Assumes nothing.
-use Rattle.shape.specs.Shape.{shapeCommands}
-use Rattle.command.proofs.Writes.{WritingAt}
-use Rattle.shape.proofs.Ways.{ways}
+use Rattle.shape.proofs.Ways.{arms}
 use borrow.Author.Needs.{needs}
-use lib.ListN.{length}
-use Prim.Native.Nat.{_-_}
-use mathlib.Core.Path.{_≡_}
 use Rattle.shape.proofs.write_at.Statement.{statement}
 use Rattle.shape.proofs.write_at.Tie as tie
 
-abbrev Inv-loop : tie.InvT-loop
-Inv-loop shape vertices codes₀ i numbers₀ j count at₀ k₀ codes numbers at k = WritingAt (shapeCommands shape vertices) i j codes₀ numbers₀ codes numbers k at × (count ≡ length (shapeCommands shape vertices))
+enum-known-shape : tie.Need-enum-known-shape
+enum-known-shape c = search needs
 
-abbrev μ-loop : tie.MeasureT-loop
-μ-loop shape vertices codes₀ i numbers₀ j count at₀ k₀ codes numbers at k = count - k
+write-path-requires : tie.Need-write-path-requires
+write-path-requires c κs = search (needs, arms)
 
-count-of-requires : tie.Need-count-of-requires Inv-loop μ-loop
-count-of-requires c κs = search needs
+enum-known-shape-2 : tie.Need-enum-known-shape-2
+enum-known-shape-2 c = search needs
 
-loop-holds : tie.Need-loop-holds Inv-loop μ-loop
-loop-holds c = search (needs, ways)
+write-rect-requires : tie.Need-write-rect-requires
+write-rect-requires c κs = search (needs, arms)
 
-command-of-requires : tie.Need-command-of-requires Inv-loop μ-loop
-command-of-requires c κs = search (needs, ways)
-
-code-requires : tie.Need-code-requires Inv-loop μ-loop
-code-requires c κs = search needs
-
-add-codes : tie.Need-add-codes Inv-loop μ-loop
-add-codes c = search (needs, ways)
-
-slice-write-codes : tie.Need-slice-write-codes Inv-loop μ-loop
-slice-write-codes c = search (needs, ways)
-
-put-numbers-requires : tie.Need-put-numbers-requires Inv-loop μ-loop
-put-numbers-requires c κs = search (needs, ways)
-
-add-k : tie.Need-add-k Inv-loop μ-loop
-add-k c = search needs
-
-loop-less : tie.Need-loop-less Inv-loop μ-loop
-loop-less c = search needs
-
-loop-again : tie.Need-loop-again Inv-loop μ-loop
-loop-again c = search (needs, ways)
-
-same-length : tie.Need-same-length Inv-loop μ-loop
+same-length : tie.Need-same-length
 same-length c = search needs
 
-same-length-2 : tie.Need-same-length-2 Inv-loop μ-loop
+same-length-2 : tie.Need-same-length-2
 same-length-2 c = search needs
 
-returns : tie.Need-returns Inv-loop μ-loop
-returns c = search (needs, ways)
+returns : tie.Need-returns
+returns c = search (needs, arms)
+
+same-length-3 : tie.Need-same-length-3
+same-length-3 c = search needs
+
+same-length-4 : tie.Need-same-length-4
+same-length-4 c = search needs
+
+returns-2 : tie.Need-returns-2
+returns-2 c = search (needs, arms)
 
 pub write-at-spec : {M : Type 1} → statement M
 write-at-spec =
     tie.close
     (tie.spec
-    Inv-loop
-    μ-loop
-    count-of-requires
-    loop-holds
-    command-of-requires
-    code-requires
-    add-codes
-    slice-write-codes
-    put-numbers-requires
-    add-k
-    loop-less
-    loop-again
+    enum-known-shape
+    write-path-requires
+    enum-known-shape-2
+    write-rect-requires
     same-length
     same-length-2
-    returns)
+    returns
+    same-length-3
+    same-length-4
+    returns-2)

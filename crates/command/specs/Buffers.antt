@@ -1,0 +1,44 @@
+-- What a call that fills buffers promises of its result and of each buffer, and the last check before it does. Definitions only.
+use Prim.Native.Nat.{ℕ}
+use mathlib.Core.Path.{_≡_}
+use mathlib.Core.Bool.{Bool, cond, _&&_}
+use mathlib.Core.List.{List, _++_}
+use lib.Dec.{leb}
+use lib.Ieee.{Float}
+use lib.ListN.{length, drop}
+use Rattle.command.specs.declared.PathCommand.{PathCommand}
+use Rattle.command.specs.declared.Refusal.the-variants.{BufferTooSmall}
+use Rattle.command.specs.Commands.{codesOf, numbersOf}
+use Rattle.command.specs.Outcomes.{Outcome, refused, accepted, numberOf, mapped, listOf}
+
+-- a buffer with its beginning replaced: places past it keep their content
+abbrev pub onto {ℓ} : {A : Type ℓ} → List A → List A → List A
+onto answer buffer = answer ++ drop (length answer) buffer
+
+-- The last check: an answer that does not fit the buffers is refused.
+unfoldable pub fitted : {A : Type 0} → (A → Bool) → Outcome A → Outcome A
+fitted fits (refused r) = refused r
+fitted fits (accepted a) = cond (fits a) (accepted a) (refused BufferTooSmall)
+
+-- a list fits a buffer of this length
+abbrev pub inBuffer : {A : Type 0} → ℕ → List A → Bool
+inBuffer n xs = leb (length xs) n
+
+-- the codes and the numbers of commands fit two buffers of these lengths
+abbrev pub inBuffers : ℕ → ℕ → List PathCommand → Bool
+inBuffers codes numbers cs = inBuffer codes (codesOf cs) && inBuffer numbers (numbersOf cs)
+
+-- The promise about a buffer: the number is the outcome's, the count is that of its list, and the list is the beginning of the buffer; all else in it is as it was.
+pub record Filled {A : Type 0} (o : Outcome (List A)) (number count : ℕ) (buffer buffer' : List A) : Type 0 where
+  pub number-is : number ≡ numberOf o
+  pub count-is : count ≡ length (listOf o)
+  pub content-is : buffer' ≡ onto (listOf o) buffer
+
+-- The promise of a call that draws: one buffer is filled with the codes and one with the numbers.
+pub record FilledBoth (o : Outcome (List PathCommand)) (number codesCount numbersCount : ℕ) (codes codes' : List ℕ) (numbers numbers' : List Float) : Type 0 where
+  pub codes-filled : Filled (mapped codesOf o) number codesCount codes codes'
+  pub numbers-filled : Filled (mapped numbersOf o) number numbersCount numbers numbers'
+
+-- how many codes and numbers commands need
+abbrev pub roomOf : List PathCommand → ℕ × ℕ
+roomOf cs = (length (codesOf cs), length (numbersOf cs))

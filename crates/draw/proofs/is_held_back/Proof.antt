@@ -1,0 +1,14 @@
+-- `draw::is_held_back` meets its contract. Assumes nothing.
+use borrow.Author.Needs.{needs}
+use Rattle.draw.proofs.Ways.{kinds}
+use Rattle.draw.proofs.is_held_back.Statement.{statement}
+use Rattle.draw.proofs.is_held_back.Tie as tie
+
+returns : tie.Need-returns
+returns c = search (needs, kinds)
+
+returns-2 : tie.Need-returns-2
+returns-2 c = search (needs, kinds)
+
+pub is-held-back-spec : {M : Type 1} → statement M
+is-held-back-spec = tie.close (tie.spec returns returns-2)

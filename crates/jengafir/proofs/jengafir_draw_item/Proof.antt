@@ -1,0 +1,38 @@
+-- `jengafir::jengafir_draw_item` meets its contract. Assumes nothing.
+use borrow.Author.Needs.{needs}
+use Rattle.command.proofs.Buffers.{both-told}
+use Rattle.jengafir.proofs.jengafir_draw_item.Statement.{statement}
+use Rattle.jengafir.proofs.jengafir_draw_item.Tie as tie
+
+draw-item-requires : tie.Need-draw-item-requires
+draw-item-requires c κs = search needs
+
+first-count-requires : tie.Need-first-count-requires
+first-count-requires c κs = search needs
+
+second-count-requires : tie.Need-second-count-requires
+second-count-requires c κs = search needs
+
+counts-number-requires : tie.Need-counts-number-requires
+counts-number-requires c κs = search needs
+
+same-length : tie.Need-same-length
+same-length c = search needs
+
+same-length-2 : tie.Need-same-length-2
+same-length-2 c = search needs
+
+returns : tie.Need-returns
+returns c = search (needs, both-told)
+
+pub jengafir-draw-item-spec : {M : Type 1} → statement M
+jengafir-draw-item-spec =
+    tie.close
+    (tie.spec
+    draw-item-requires
+    first-count-requires
+    second-count-requires
+    counts-number-requires
+    same-length
+    same-length-2
+    returns)

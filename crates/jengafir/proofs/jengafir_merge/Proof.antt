@@ -1,0 +1,38 @@
+-- `jengafir::jengafir_merge` meets its contract. Assumes nothing.
+use borrow.Author.Needs.{needs}
+use Rattle.command.proofs.Buffers.{both-told}
+use Rattle.jengafir.proofs.jengafir_merge.Statement.{statement}
+use Rattle.jengafir.proofs.jengafir_merge.Tie as tie
+
+draw-merge-requires : tie.Need-draw-merge-requires
+draw-merge-requires c κs = search needs
+
+first-count-requires : tie.Need-first-count-requires
+first-count-requires c κs = search needs
+
+second-count-requires : tie.Need-second-count-requires
+second-count-requires c κs = search needs
+
+counts-number-requires : tie.Need-counts-number-requires
+counts-number-requires c κs = search needs
+
+same-length : tie.Need-same-length
+same-length c = search needs
+
+same-length-2 : tie.Need-same-length-2
+same-length-2 c = search needs
+
+returns : tie.Need-returns
+returns c = search (needs, both-told)
+
+pub jengafir-merge-spec : {M : Type 1} → statement M
+jengafir-merge-spec =
+    tie.close
+    (tie.spec
+    draw-merge-requires
+    first-count-requires
+    second-count-requires
+    counts-number-requires
+    same-length
+    same-length-2
+    returns)

@@ -1,0 +1,151 @@
+-- A command that is written as a code and numbers reads back as itself, and what is read has that code and those numbers. Assumes nothing.
+use mathlib.Core.Path.{_≡_, refl, sym, ap, _∙_}
+use mathlib.Core.Bool.{Bool, true, false, cond, not}
+use mathlib.Core.List.{List, [], _∷_, _++_, append-nil}
+use Prim.Native.Nat.{ℕ, zero, suc, _+_, _≤_}
+use native.Mathlib.Omega.{arith}
+use lib.Dec.{eqb, ltb}
+use lib.Ieee.{Float}
+use lib.ListN.{length, take, drop, length-append}
+use lib.Seq.{take-append-seam}
+use borrow.Author.Tests.{le-ltb, ltb-false}
+use Rattle.ieee.specs.Limit.{allWithin}
+use Rattle.command.specs.declared.PathCommand.{PathCommand}
+use Rattle.command.specs.declared.PathCommand.the-variants.{Move, Line, Cubic, Close, Quad}
+use Rattle.command.specs.Commands.{codeOf, coordinatesOf, commandLimit}
+use Rattle.command.specs.declared.Refusal.{Refusal}
+use Rattle.command.specs.Outcomes.{Outcome, refused, accepted, mapped, valueOr}
+use Rattle.command.proofs.Outcomes.{refused-accepted, checks-passed}
+use Rattle.reader.specs.Read.{sizeOfCode, commandAt, commandChecks, readCommand, readFrom}
+
+pub size-of : (c : PathCommand) → sizeOfCode (codeOf c) ≡ length (coordinatesOf c)
+unfolding sizeOfCode
+size-of (Move x y) = refl
+size-of (Line x y) = refl
+size-of (Cubic ax ay bx by x y) = refl
+size-of Close = refl
+size-of (Quad ax ay x y) = refl
+
+pub command-of : (c : PathCommand) (v : List Float) → commandAt (codeOf c) (coordinatesOf c ++ v) ≡ c
+unfolding commandAt
+command-of (Move x y) v = refl
+command-of (Line x y) v = refl
+command-of (Cubic ax ay bx by x y) v = refl
+command-of Close v = refl
+command-of (Quad ax ay x y) v = refl
+
+listed : (c : PathCommand) → codeOf c ≤ 4
+listed (Move x y) = omega arith
+listed (Line x y) = omega arith
+listed (Cubic ax ay bx by x y) = omega arith
+listed Close = omega arith
+listed (Quad ax ay x y) = omega arith
+
+pub size-most : (c : ℕ) → sizeOfCode c ≤ 6
+unfolding sizeOfCode
+size-most c = go (ltb c 2) (eqb c 2) (eqb c 4)
+  where
+    go : (a b d : Bool) → cond a 2 (cond b 6 (cond d 4 0)) ≤ 6
+    go true b d = omega arith
+    go false true d = omega arith
+    go false false true = omega arith
+    go false false false = omega arith
+
+-- the checks of a command that is read, all passed
+pub read-accepted : (c : ℕ) (v : List Float) → c ≤ 4 → sizeOfCode c ≤ length v → allWithin commandLimit (take (sizeOfCode c) v) ≡ true → readCommand c v ≡ accepted (commandAt c v)
+unfolding readCommand commandChecks
+read-accepted c v a b d = rw (le-ltb 4 c a, le-ltb (length v) (sizeOfCode c) b, d)
+
+-- and the other way round
+pub record Accepted (c : ℕ) (v : List Float) (command : PathCommand) : Type 0 where
+  pub listed : c ≤ 4
+  pub inside : sizeOfCode c ≤ length v
+  pub within : allWithin commandLimit (take (sizeOfCode c) v) ≡ true
+  pub is : command ≡ commandAt c v
+
+pub accepted-read : (c : ℕ) (v : List Float) (command : PathCommand) → readCommand c v ≡ accepted command → Accepted c v command
+unfolding readCommand commandChecks
+accepted-read c v command e =
+    let p = checks-passed (commandChecks c v) (accepted (commandAt c v)) command e in
+    record {
+      listed = ltb-false 4 c (p .0 .0);
+      inside = ltb-false (length v) (sizeOfCode c) (p .0 .1 .0);
+      within = held (allWithin commandLimit (take (sizeOfCode c) v)) (p .0 .1 .1 .0);
+      is = cc;
+    }
+  where
+    held : (b : Bool) → not b ≡ false → b ≡ true
+    held true e = refl
+    held false e = sym e
+
+-- a command in front of other numbers
+pub command-read : (c : PathCommand) (v : List Float) → allWithin commandLimit (coordinatesOf c) ≡ true → readCommand (codeOf c) (coordinatesOf c ++ v) ≡ accepted c
+command-read c v h =
+    let w : List Float = coordinatesOf c ++ v in
+    let front : take (sizeOfCode (codeOf c)) w ≡ coordinatesOf c = ap (λ (n : ℕ). take n w) (size-of c) ∙ take-append-seam (coordinatesOf c) v in
+    let long : sizeOfCode (codeOf c) ≤ length w = rw (size-of c, length-append (coordinatesOf c) v) (omega arith) in
+    read-accepted (codeOf c) w (listed c) long (ap (allWithin commandLimit) front ∙ h) ∙ ap accepted (command-of c v)
+
+-- the command read at the start of v has the code c, and its numbers are those of v
+pub code-at : (c : ℕ) (v : List Float) → c ≤ 4 → codeOf (commandAt c v) ≡ c
+unfolding commandAt
+code-at zero v h = refl
+code-at (suc zero) v h = refl
+code-at (suc (suc zero)) v h = refl
+code-at (suc (suc (suc zero))) v h = refl
+code-at (suc (suc (suc (suc zero)))) v h = refl
+code-at (suc (suc (suc (suc (suc c))))) v h = absurd (omega arith)
+
+pub coordinates-at : (c : ℕ) (v : List Float) → c ≤ 4 → sizeOfCode c ≤ length v → coordinatesOf (commandAt c v) ≡ take (sizeOfCode c) v
+unfolding commandAt sizeOfCode
+coordinates-at zero [] h l = absurd (omega arith)
+coordinates-at zero (x0 ∷ []) h l = absurd (omega arith)
+coordinates-at zero (x0 ∷ x1 ∷ v) h l = refl
+coordinates-at (suc zero) [] h l = absurd (omega arith)
+coordinates-at (suc zero) (x0 ∷ []) h l = absurd (omega arith)
+coordinates-at (suc zero) (x0 ∷ x1 ∷ v) h l = refl
+coordinates-at (suc (suc zero)) [] h l = absurd (omega arith)
+coordinates-at (suc (suc zero)) (x0 ∷ []) h l = absurd (omega arith)
+coordinates-at (suc (suc zero)) (x0 ∷ x1 ∷ []) h l = absurd (omega arith)
+coordinates-at (suc (suc zero)) (x0 ∷ x1 ∷ x2 ∷ []) h l = absurd (omega arith)
+coordinates-at (suc (suc zero)) (x0 ∷ x1 ∷ x2 ∷ x3 ∷ []) h l = absurd (omega arith)
+coordinates-at (suc (suc zero)) (x0 ∷ x1 ∷ x2 ∷ x3 ∷ x4 ∷ []) h l = absurd (omega arith)
+coordinates-at (suc (suc zero)) (x0 ∷ x1 ∷ x2 ∷ x3 ∷ x4 ∷ x5 ∷ v) h l = refl
+coordinates-at (suc (suc (suc zero))) v h l = refl
+coordinates-at (suc (suc (suc (suc zero)))) [] h l = absurd (omega arith)
+coordinates-at (suc (suc (suc (suc zero)))) (x0 ∷ []) h l = absurd (omega arith)
+coordinates-at (suc (suc (suc (suc zero)))) (x0 ∷ x1 ∷ []) h l = absurd (omega arith)
+coordinates-at (suc (suc (suc (suc zero)))) (x0 ∷ x1 ∷ x2 ∷ []) h l = absurd (omega arith)
+coordinates-at (suc (suc (suc (suc zero)))) (x0 ∷ x1 ∷ x2 ∷ x3 ∷ v) h l = refl
+coordinates-at (suc (suc (suc (suc (suc c))))) v h l = absurd (omega arith)
+
+-- it reads no number past its own
+pub command-part : (c : ℕ) (v : List Float) → c ≤ 4 → sizeOfCode c ≤ length v → commandAt c (take (sizeOfCode c) v) ≡ commandAt c v
+command-part c v h l =
+    sym (λ i. commandAt (code-at c v h i) (coordinates-at c v h l i))
+    ∙ ap (commandAt (codeOf (commandAt c v))) (sym (append-nil (coordinatesOf (commandAt c v))))
+    ∙ command-of (commandAt c v) []
+
+-- ---- what reading from a place found
+module _ (code : ℕ) (numbers : List Float) (place : ℕ) where
+  abbrev after : PathCommand → PathCommand × ℕ
+  after c = (c, place + sizeOfCode code)
+
+  pub refused-from : (r : Refusal) → refused r ≡ readFrom code numbers place → readCommand code (drop place numbers) ≡ refused r
+  unfolding readFrom
+  refused-from r e = go (readCommand code (drop place numbers)) e
+    where
+      go : (o : Outcome PathCommand) → refused r ≡ mapped after o → o ≡ refused r
+      go (refused q) e = cc
+      go (accepted c) e = refused-accepted r (after c) e
+
+  pub accepted-from : (at : PathCommand × ℕ) → accepted at ≡ readFrom code numbers place
+      → (readCommand code (drop place numbers) ≡ accepted (at .0)) × (at .1 ≡ place + sizeOfCode code)
+  unfolding readFrom
+  accepted-from at e = go (readCommand code (drop place numbers)) e
+    where
+      go : (o : Outcome PathCommand) → accepted at ≡ mapped after o → (o ≡ accepted (at .0)) × (at .1 ≡ place + sizeOfCode code)
+      go (refused q) e = refused-accepted q at (sym e)
+      go (accepted c) e =
+          let same : at ≡ after c = ap (valueOr at) e in
+          (sym (ap (λ (x : PathCommand × ℕ). accepted (x .0)) same), ap (λ (x : PathCommand × ℕ). x .1) same)

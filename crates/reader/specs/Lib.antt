@@ -1,0 +1,2 @@
+-- One command as a code and numbers.
+pub mod Read
