@@ -12,6 +12,7 @@ use lib.Ieee.Exact.{HasValue}
 use Rattle.ieee.specs.Limit.{within}
 use Rattle.ieee.specs.Grid.{scale, On, Twin}
 use Rattle.ieee.proofs.Grid.{weaken, scale-on}
+use Rattle.ieee.proofs.Each.{each-append, each-split}
 use Rattle.ieee.proofs.Limits as Limits
 use Rattle.command.specs.declared.PathCommand.{PathCommand}
 use Rattle.command.specs.declared.PathCommand.the-variants.{Move, Line, Cubic, Close, Quad}
@@ -23,10 +24,6 @@ use Rattle.command.proofs.Outcomes.{AllPass, checks-relate}
 use Rattle.command.proofs.Passes.{numbers-append}
 
 -- ---- numbers on a grid
-pub all-append : (q b : ℕ) (xs ys : List Float) → AllOn q b xs → AllOn q b ys → AllOn q b (xs ++ ys)
-all-append q b [] ys X Y = Y
-all-append q b (x ∷ xs) ys X Y = (X .0, all-append q b xs ys (X .1) Y)
-
 pub all-weaken : (q b q' b' : ℕ) (xs : List Float) → q ≤ q' → b ≤ b' → AllOn q b xs → AllOn q' b' xs
 all-weaken q b q' b' [] Q B X = tt
 all-weaken q b q' b' (x ∷ xs) Q B X = (weaken q b q' b' x Q B (X .0), all-weaken q b q' b' xs Q B (X .1))
@@ -114,13 +111,13 @@ module _ {k q b : ℕ} where
   pub twins-cons : {c c' : PathCommand} {cs cs' : List PathCommand} → CommandTwin k q b c c' → Twins k q b cs cs' → Twins k q b (c ∷ cs) (c' ∷ cs')
   twins-cons {c} {c'} {cs} {cs'} C Cs = record {
     commands = λ i. C .command i ∷ Cs .commands i;
-    grid = all-append q b (coordinatesOf c) (numbersOf cs) (C .grid) (Cs .grid);
+    grid = each-append (On q b) (coordinatesOf c) (numbersOf cs) (C .grid) (Cs .grid);
   }
 
   pub twins-append : {cs cs' ds ds' : List PathCommand} → Twins k q b cs cs' → Twins k q b ds ds' → Twins k q b (cs ++ ds) (cs' ++ ds')
   twins-append {cs} {cs'} {ds} {ds'} Cs Ds = record {
     commands = ap₂ (λ (xs ys : List PathCommand). xs ++ ys) (Cs .commands) (Ds .commands) ∙ sym (map-append (enlarged k) cs ds);
-    grid = subst (λ (xs : List Float). AllOn q b xs) (sym (numbers-append cs ds)) (all-append q b (numbersOf cs) (numbersOf ds) (Cs .grid) (Ds .grid));
+    grid = subst (λ (xs : List Float). AllOn q b xs) (sym (numbers-append cs ds)) (each-append (On q b) (numbersOf cs) (numbersOf ds) (Cs .grid) (Ds .grid));
   }
 
   -- one of two lists, by a test that is the same
@@ -135,10 +132,6 @@ pub twins-weaken : (k q b q' b' : ℕ) (cs cs' : List PathCommand) → q ≤ q' 
 twins-weaken k q b q' b' cs cs' Q B t = record { commands = t .commands; grid = all-weaken q b q' b' (numbersOf cs) Q B (t .grid) }
 
 -- ---- parts of a list
-pub all-split : (q b : ℕ) (xs ys : List Float) → AllOn q b (xs ++ ys) → AllOn q b xs × AllOn q b ys
-all-split q b [] ys A = (tt, A)
-all-split q b (x ∷ xs) ys A = let s = all-split q b xs ys (A .1) in ((A .0, s .0), s .1)
-
 pub twins-take : {k q b : ℕ} {cs cs' : List PathCommand} (n : ℕ) → Twins k q b cs cs' → Twins k q b (take n cs) (take n cs')
 twins-take {k} {q} {b} {cs} {cs'} n t = subst (λ (ds : List PathCommand). Twins k q b (take n cs) (take n ds)) (sym (t .commands)) (go n cs (t .grid))
   where
@@ -146,7 +139,7 @@ twins-take {k} {q} {b} {cs} {cs'} n t = subst (λ (ds : List PathCommand). Twins
     go zero cs A = twins-none
     go (suc n) [] A = twins-none
     go (suc n) (c ∷ cs) A =
-        let s = all-split q b (coordinatesOf c) (numbersOf cs) A in
+        let s = each-split (On q b) (coordinatesOf c) (numbersOf cs) A in
         twins-cons (record { command = refl; grid = s .0 }) (go n cs (s .1))
 
 -- ---- what is drawn

@@ -10,7 +10,7 @@ use Rattle.command.specs.declared.Refusal.the-variants.{Empty, TooMany, 
 use Rattle.command.specs.declared.Refusal.the-variants.{NotMergeable, TooShort, NoSuchCopy, NotFinite, BufferTooSmall, OutOfBounds}
 use Rattle.command.specs.declared.Counts.{Counts}
 use Rattle.command.specs.Refusals.{refusalNumber}
-use Rattle.command.specs.Outcomes.{Outcome, refused, accepted, numberOf, valueOr, Check, checked, Counted, countsOf, countsNumber, firstCount, secondCount}
+use Rattle.command.specs.Outcomes.{Outcome, refused, accepted, numberOf, valueOr, Check, checked, Counted, countsOf}
 
 -- a refusal is no answer
 abbrev IsAccepted : {A : Type 0} → Outcome A → Type 0
@@ -46,10 +46,9 @@ module _ {A : Type 0} where
   checks-passed cs o a e =
       checks-hold (λ (x : Outcome A). x ≡ accepted a → AllPass cs × (o ≡ accepted a)) (λ r f. refused-accepted r a f) cs o (λ pass f. (pass, f)) e
 
--- two counts told as a number and the counts
-pub counted : (counts : Counts) (o : Outcome (ℕ × ℕ)) (number first second : ℕ) → countsOf counts ≡ o
-    → number ≡ countsNumber counts → first ≡ firstCount counts → second ≡ secondCount counts → Counted o number first second
-counted counts o number first second is n f s = rw (← is) (record { number-is = n; first-is = f; second-is = s })
+-- two counts told of one outcome are told of any that it is
+pub counted : (counts : Counts) (o : Outcome (ℕ × ℕ)) (number first second : ℕ) → countsOf counts ≡ o → Counted (countsOf counts) number first second → Counted o number first second
+counted counts o number first second is told = subst (λ (p : Outcome (ℕ × ℕ)). Counted p number first second) is told
 
 -- no refusal has the number 0
 pub number-some : (r : Refusal) → 0 < refusalNumber r

@@ -3,6 +3,7 @@ use Prim.Native.Nat.{ℕ}
 use mathlib.Core.Path.{_≡_}
 use mathlib.Core.List.{List, [], _∷_, map}
 use lib.Ieee.{Float}
+use Rattle.ieee.specs.Each.{Each}
 use Rattle.ieee.specs.Grid.{scale, On}
 use Rattle.command.specs.declared.PathCommand.{PathCommand}
 use Rattle.command.specs.declared.PathCommand.the-variants.{Move, Line, Cubic, Close, Quad}
@@ -19,8 +20,7 @@ enlarged k (Quad ax ay x y) = Quad (scale k ax) (scale k ay) (scale k x) (scale 
 
 -- every number of the list is a whole multiple of 2 ^ -q, and at most 2 ^ b in absolute value
 abbrev pub AllOn : ℕ → ℕ → List Float → Type 0
-AllOn q b [] = Unit {0}
-AllOn q b (x ∷ xs) = On q b x × AllOn q b xs
+AllOn q b xs = Each (On q b) xs
 
 -- c' is c with every number times 2 ^ k, and the numbers of c are on the grid
 pub record CommandTwin (k q b : ℕ) (c c' : PathCommand) : Type 0 where

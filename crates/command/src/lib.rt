@@ -6,7 +6,7 @@ ghost use lib.ListN.{length};
 ghost use lib.Seq.{sets};
 ghost use Rattle.command.specs.Commands.{codeOf, coordinatesOf};
 ghost use Rattle.command.specs.Refusals.{refusalNumber};
-ghost use Rattle.command.specs.Outcomes.{countsNumber, firstCount, secondCount};
+ghost use Rattle.command.specs.Outcomes.{Counted, countsOf, countsNumber};
 
 // A path command, with its coordinates.
 pub enum PathCommand {
@@ -70,23 +70,21 @@ pub fn counts_number(counts: Counts) -> u32
     }
 }
 
-// The first count: 0 for a refusal.
-pub fn first_count(counts: Counts) -> usize
-    ensures { λ r. ⌜ r ≡ firstCount counts ⌝ }
+// Tells both counts at places of the caller's, 0 for a refusal, and hands the number back.
+pub fn tell(counts: Counts, first: &mut usize, second: &mut usize) -> u32
+    ensures { λ r. ⌜ Counted (countsOf counts) r (now (first .exit)) (now (second .exit)) ⌝ }
 {
     match counts {
-        Counts::Refused(_) => 0,
-        Counts::Of(first, _) => first,
-    }
-}
-
-// The second count: 0 for a refusal.
-pub fn second_count(counts: Counts) -> usize
-    ensures { λ r. ⌜ r ≡ secondCount counts ⌝ }
-{
-    match counts {
-        Counts::Refused(_) => 0,
-        Counts::Of(_, second) => second,
+        Counts::Refused(refusal) => {
+            *first = 0;
+            *second = 0;
+            refusal_number(refusal)
+        }
+        Counts::Of(a, b) => {
+            *first = a;
+            *second = b;
+            0
+        }
     }
 }
 

@@ -288,7 +288,7 @@ module _ (r : RepeaterStyle) (pass : AllPass (repeaterChecks r)) where
 
   numbers-within : allWithin repeaterLimit (repeaterNumbers r) ≡ true
   unfolding repeaterChecks
-  numbers-within = not-false (allWithin repeaterLimit (repeaterNumbers r)) (pass .1 .0)
+  numbers-within = search not-false
 
   pub copies-within : within countLimit (r .copies) ≡ true
   unfolding allWithin

@@ -1,14 +1,14 @@
 -- What a source or a vertex list that is drawn has met: each check, so that its numbers are there and within the limit, and its commands are the shape's, which are few.
 -- Assumes nothing.
 use mathlib.Core.Path.{_≡_, refl, sym, ap}
-use mathlib.Core.Bool.{Bool, true, false, cond, not, _&&_}
+use mathlib.Core.Bool.{Bool, true, false, cond, _&&_}
 use mathlib.Core.List.{List, []}
 use Prim.Native.Nat.{ℕ, _+_, _*_, _≤_, _<_}
 use native.Mathlib.Omega.{arith}
 use lib.Dec.{eqb, ltb}
 use lib.Ieee.{Float, nan}
 use lib.ListN.{length, getD, take, drop, length-drop}
-use borrow.Author.Tests.{eqb-false, ltb-false}
+use borrow.Author.Tests.{eqb-false, ltb-false, not-false}
 use Rattle.ieee.specs.Limit.{allWithin}
 use Rattle.command.specs.declared.PathCommand.{PathCommand}
 use Rattle.command.specs.declared.Refusal.the-variants.{Unsupported}
@@ -29,11 +29,6 @@ use Rattle.draw.specs.Checks.{coordinateLimit}
 use Rattle.draw.specs.Paths.{pathChecks, drawPath}
 use Rattle.draw.specs.Items.{hasNoVertices, itemShape, sourceChecks, shapeDrawn, drawSource, itemChecks, drawItem}
 
--- a test that is no fault holds
-pub held : (b : Bool) → not b ≡ false → b ≡ true
-held true e = refl
-held false e = sym e
-
 -- ---- the checks of a row, passed
 pub record Passed (row : ItemRow) (items : List Float) : Type 0 where
   pub some : hasNoVertices row ≡ false
@@ -44,10 +39,10 @@ pub record Passed (row : ItemRow) (items : List Float) : Type 0 where
 pub source-passed : (row : ItemRow) (items : List Float) → AllPass (sourceChecks row items) → Passed row items
 unfolding sourceChecks
 source-passed row items pass = record {
-  some = pass .1 .0;
-  few = ltb-false 1024 (row .count) (pass .1 .1 .0);
-  inside = ltb-false (length items) (row .place + entriesOf row) (pass .1 .1 .1 .0);
-  numbers-within = held (allWithin coordinateLimit (take (entriesOf row) (drop (row .place) items))) (pass .1 .1 .1 .1 .0);
+  some = search not-false;
+  few = omega (arith, ltb-false, pass);
+  inside = omega (arith, ltb-false, pass);
+  numbers-within = search not-false;
 }
 
 pub entries-dropped : (row : ItemRow) (items : List Float) → row .place + entriesOf row ≤ length items → entriesOf row ≤ length (drop (row .place) items)
@@ -122,10 +117,10 @@ pub record PassedPath (closed : ℕ) (v : List Float) (count : ℕ) : Type 0 whe
 pub path-passed : (closed : ℕ) (v : List Float) (count : ℕ) → AllPass (pathChecks closed v count) → PassedPath closed v count
 unfolding pathChecks
 path-passed closed v count pass = record {
-  some = omega (arith, eqb-false count 0 (pass .0));
-  few = ltb-false 1024 count (pass .1 .0);
-  inside = ltb-false (length v) (6 * count) (pass .1 .1 .1 .0);
-  numbers-within = held (allWithin coordinateLimit (take (6 * count) v)) (pass .1 .1 .1 .1 .0);
+  some = omega (arith, eqb-false, pass);
+  few = omega (arith, ltb-false, pass);
+  inside = omega (arith, ltb-false, pass);
+  numbers-within = search not-false;
 }
 
 module _ (closed : ℕ) (v : List Float) (count : ℕ) (cs : List PathCommand) (e : drawPath closed v count ≡ accepted cs) where

@@ -2,7 +2,7 @@
 -- Assumes nothing.
 use mathlib.Core.Path.{_≡_, refl, sym, ap, _∙_}
 use mathlib.Core.Bool.{Bool, true, false, not}
-use mathlib.Core.List.{List}
+use mathlib.Core.List.{List, [], _∷_}
 use Prim.Native.Nat.{ℕ, _+_, _-_, _*_, _≤_, _<_}
 use native.Mathlib.Nat.{le-refl}
 use native.Mathlib.Omega.{arith}
@@ -17,7 +17,7 @@ use Rattle.command.specs.declared.Refusal.{Refusal}
 use Rattle.command.specs.declared.Refusal.the-variants.{Empty, TooMany, OutOfRange, Unlisted, Unsupported, OutOfBounds}
 use Rattle.command.specs.declared.Counts.{Counts}
 use Rattle.command.specs.Refusals.{refusalNumber}
-use Rattle.command.specs.Outcomes.{Outcome, refused, accepted, mapped, countsOf, countsNumber, firstCount, secondCount}
+use Rattle.command.specs.Outcomes.{Outcome, refused, accepted, mapped, _gives_, checked, countsOf, countsNumber, firstCount, secondCount}
 use Rattle.command.specs.Buffers.{inBuffers, fitted, FilledBoth, roomOf}
 use Rattle.command.proofs.Buffers.{both-unfilled}
 use Rattle.rect.specs.Rect.{cornerRadius}
@@ -189,9 +189,10 @@ module _ (row : ItemRow) (items : List Float) where
                 judged : t ≡ allWithin coordinateLimit (take (entriesOf row) v)
                 judged = t-is ∙ ap (allWithin coordinateLimit) same
 
-                pub source-beyond : t ≡ false → outcomeOf (Fault OutOfRange) items ≡ drawSource row items
-                unfolding drawSource sourceChecks outcomeOf
-                source-beyond f =
+                -- the last check, with the others passed
+                last : checked ((not t gives OutOfRange) ∷ []) (shapeDrawn row v) ≡ drawSource row items
+                unfolding drawSource sourceChecks
+                last =
                     rw (
                       ← held-is,
                       a,
@@ -200,23 +201,14 @@ module _ (row : ItemRow) (items : List Float) where
                       le-ltb 1024 (row .count) c,
                       le-ltb (length items) (row .place + entriesOf row) entries-inside,
                       ← judged,
-                      f,
                     )
 
+                pub source-beyond : t ≡ false → outcomeOf (Fault OutOfRange) items ≡ drawSource row items
+                unfolding outcomeOf
+                source-beyond f = rw f at last
+
                 pub source-made : t ≡ true → (k : Checked) → outcomeOf k items ≡ shapeDrawn row v → outcomeOf k items ≡ drawSource row items
-                unfolding drawSource sourceChecks
-                source-made f k is =
-                    rw (
-                      ← held-is,
-                      a,
-                      ← empty-is,
-                      b,
-                      le-ltb 1024 (row .count) c,
-                      le-ltb (length items) (row .place + entriesOf row) entries-inside,
-                      ← judged,
-                      f,
-                    )
-                    is
+                source-made f k is = is ∙ (rw f at last)
 
 pub ruleset sources = (
   source-held,

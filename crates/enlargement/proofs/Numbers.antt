@@ -1,7 +1,7 @@
 -- What is drawn of numbers on the grid is an f32 on a finer grid and is multiplied with them, and so is what is measured and cut of it, and a copy's shift. Assumes nothing.
 use Prim.Native.Nat.{ℕ, zero, suc, _+_, _≤_, _<_}
 use native.Mathlib.Omega.{arith}
-use borrow.Author.Tests.{ltb-true}
+use borrow.Author.Tests.{ltb-true, not-false}
 use mathlib.Core.Path.{_≡_, refl, sym, ap₂, subst, _∙_}
 use mathlib.Core.Bool.{not}
 use mathlib.Core.List.{List, [], _∷_, map, _++_}
@@ -11,7 +11,7 @@ use lib.ListN.{length, getD, length-map, List·getD-map, take, drop}
 use Rattle.ieee.specs.Grid.{scale, On, Twin}
 use Rattle.ieee.specs.Single.{Single, AllSingle}
 use Rattle.ieee.proofs.Grid.{mul-pow}
-use Rattle.ieee.proofs.Single.{single-append}
+use Rattle.ieee.proofs.Each.{each-append}
 use Rattle.command.specs.declared.PathCommand.{PathCommand}
 use Rattle.command.specs.declared.Refusal.{Refusal}
 use Rattle.command.specs.declared.Refusal.the-variants.{NoSuchCopy, NotFinite}
@@ -19,11 +19,10 @@ use Rattle.command.specs.Commands.{codesOf, numbersOf}
 use Rattle.command.specs.Outcomes.{Outcome, refused, accepted, mapped, listOf, _gives_, checked}
 use Rattle.command.specs.Enlarged.{AllOn, Twins, DrawingTwin, enlarged}
 use Rattle.command.proofs.Outcomes.{AllPass, checks-hold}
-use Rattle.command.proofs.Enlarged.{all-weaken, all-append}
+use Rattle.command.proofs.Enlarged.{all-weaken}
 use Rattle.item.specs.Rows.{itemRow}
 use Rattle.draw.specs.Paths.{drawPath}
 use Rattle.draw.specs.Items.{drawItem}
-use Rattle.draw.proofs.Sources.{held}
 use Rattle.draw.proofs.Single.{path-drawn-single, item-drawn-single}
 use Rattle.draw.proofs.Enlarged.{path-outcome, item-outcome}
 use Rattle.join.specs.Merge.{drawMerge}
@@ -98,7 +97,7 @@ pub small-weaken : (q b q' b' : ℕ) (xs : List Float) → q ≤ q' → b ≤ b'
 small-weaken q b q' b' xs Q B X = record { single = X .single; grid = all-weaken q b q' b' xs Q B (X .grid) }
 
 pub small-append : {q b : ℕ} {xs ys : List Float} → Small q b xs → Small q b ys → Small q b (xs ++ ys)
-small-append {q} {b} {xs} {ys} X Y = record { single = single-append xs ys (X .single) (Y .single); grid = all-append q b xs ys (X .grid) (Y .grid) }
+small-append {q} {b} {xs} {ys} X Y = record { single = each-append Single xs ys (X .single) (Y .single); grid = each-append (On q b) xs ys (X .grid) (Y .grid) }
 
 small-drop : {q b : ℕ} (n : ℕ) (xs : List Float) → Small q b xs → Small q b (drop n xs)
 small-drop zero xs X = X
@@ -208,7 +207,7 @@ shift-small p G copy =
     checks-hold SmallShift none (repeaterChecks r) (copyAnswer r copy)
     (λ pass.
     checks-hold SmallShift none ((not (ltb copy (copyCount r)) gives NoSuchCopy) ∷ (not (allFinite numbers) gives NotFinite) ∷ []) (accepted numbers)
-    (λ found. shift pass (ltb-true copy (copyCount r) (held (ltb copy (copyCount r)) (found .0)))))
+    (λ found. shift pass (ltb-true copy (copyCount r) (not-false (ltb copy (copyCount r)) (found .0)))))
   where
     r : RepeaterStyle
     r = p .repeater

@@ -335,14 +335,6 @@ unfolding allWithin
 all-bounded→within n L [] v X = refl
 all-bounded→within n L (x ∷ xs) v X = and-eq-true-iff (within L x) (allWithin L xs) .1 (bounded→within n L x v (X .0), all-bounded→within n L xs v (X .1))
 
-pub all-bounded-append : (n : ℕ) (xs ys : List Float) → AllBounded n xs → AllBounded n ys → AllBounded n (xs ++ ys)
-all-bounded-append n [] ys X Y = Y
-all-bounded-append n (x ∷ xs) ys X Y = (X .0, all-bounded-append n xs ys (X .1) Y)
-
-pub all-bounded-split : (n : ℕ) (xs ys : List Float) → AllBounded n (xs ++ ys) → AllBounded n xs × AllBounded n ys
-all-bounded-split n [] ys X = (tt, X)
-all-bounded-split n (x ∷ xs) ys X = let t = all-bounded-split n xs ys (X .1) in ((X .0, t .0), t .1)
-
 -- the number at a place, where the first k are bounded
 pub all-bounded-at : (n k : ℕ) (xs : List Float) → AllBounded n (take k xs) → k ≤ length xs → (i : ℕ) → i < k → Bounded n (getD xs i nan)
 all-bounded-at n zero xs X K i h = absurd (not-suc-le-zero h)

@@ -22,6 +22,7 @@ pub mod Choice
 pub mod Isqrt
 pub mod Root
 pub mod Hypot
+pub mod Each
 pub mod Bounds
 pub mod Single
 pub mod Pattern

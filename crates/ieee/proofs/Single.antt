@@ -1,4 +1,4 @@
--- An operation of binary32 answers an f32, and a list of f32 joined to another is one. Assumes nothing.
+-- An operation of binary32 answers an f32. Assumes nothing.
 use Prim.Native.Nat.{ℕ, _+_, _-_, _*_}
 use mathlib.Core.Bool.{Bool, Bool·beq, cond, _&&_}
 use mathlib.Core.List.{List, [], _∷_, _++_}
@@ -8,11 +8,7 @@ use lib.Ieee.Fits.{round-fits, cond-fits, nan-fits, inf-fits, add-fits, sub-fits
 use Rattle.ieee.specs.Literal.{zero32}
 use Rattle.ieee.specs.Operators.{_⊕_, _⊖_}
 use Rattle.ieee.specs.Fused.{fma}
-use Rattle.ieee.specs.Single.{AllSingle, Single}
-
-pub single-append : (xs ys : List Float) → AllSingle xs → AllSingle ys → AllSingle (xs ++ ys)
-single-append [] ys X Y = Y
-single-append (x ∷ xs) ys X Y = (X .0, single-append xs ys (X .1) Y)
+use Rattle.ieee.specs.Single.{Single}
 
 pub add-single : (x y : Float) → Single (x ⊕ y)
 add-single x y = add-fits binary32 x y

@@ -3,6 +3,7 @@ pub mod Literal
 pub mod Operators
 pub mod Sign
 pub mod Choice
+pub mod Each
 pub mod Limit
 pub mod Single
 pub mod Whole

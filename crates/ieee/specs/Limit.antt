@@ -4,6 +4,7 @@ use mathlib.Core.Bool.{Bool, true, _&&_}
 use mathlib.Core.List.{List, [], _∷_}
 use lib.Ieee.{Float, nan, inf, fin, up, down, le}
 use Rattle.ieee.specs.Sign.{abs}
+use Rattle.ieee.specs.Each.{Each}
 
 -- x is at most the limit in absolute value. A NaN is not, and an infinity is within no finite limit.
 abbrev pub within : Float → Float → Bool
@@ -21,5 +22,4 @@ Bounded n (inf s) = ⊥
 Bounded n (fin s m e) = m * up e ≤ n * down e
 
 abbrev pub AllBounded : ℕ → List Float → Type 0
-AllBounded n [] = Unit {0}
-AllBounded n (x ∷ xs) = Bounded n x × AllBounded n xs
+AllBounded n xs = Each (Bounded n) xs

@@ -1,7 +1,8 @@
 -- Numbers that are f32. Definitions only.
-use mathlib.Core.List.{List, [], _∷_}
+use mathlib.Core.List.{List}
 use lib.Dec.{T}
 use lib.Ieee.{Float, binary32, fits}
+use Rattle.ieee.specs.Each.{Each}
 
 -- x is an f32
 abbrev pub Single : Float → Type 0
@@ -9,5 +10,4 @@ Single x = T (fits binary32 x)
 
 -- each number of the list is
 abbrev pub AllSingle : List Float → Type 0
-AllSingle [] = Unit {0}
-AllSingle (x ∷ xs) = Single x × AllSingle xs
+AllSingle xs = Each Single xs

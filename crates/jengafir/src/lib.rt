@@ -88,9 +88,7 @@ pub extern "C" fn jengafir_draw_path(
         (now (codes .entry)) (now (codes .exit)) (now (numbers .entry)) (now (numbers .exit)) ⌝ }
 {
     let drawn = draw::draw_path(closed, vertices, count, codes, numbers);
-    *codes_written = command::first_count(drawn);
-    *numbers_written = command::second_count(drawn);
-    command::counts_number(drawn)
+    command::tell(drawn, codes_written, numbers_written)
 }
 
 #[no_mangle]
@@ -108,9 +106,7 @@ pub extern "C" fn jengafir_draw_item(
         (now (codes .entry)) (now (codes .exit)) (now (numbers .entry)) (now (numbers .exit)) ⌝ }
 {
     let drawn = draw::draw_item(row, items, codes, numbers);
-    *codes_written = command::first_count(drawn);
-    *numbers_written = command::second_count(drawn);
-    command::counts_number(drawn)
+    command::tell(drawn, codes_written, numbers_written)
 }
 
 #[no_mangle]
@@ -121,10 +117,11 @@ pub extern "C" fn jengafir_tray_estimate(
 ) -> u32
     ensures { λ r. ⌜ Counted (trayEstimate count) r (now («codes_needed» .exit)) (now («numbers_needed» .exit)) ⌝ }
 {
-    let need = estimate::tray_estimate(count);
-    *codes_needed = command::first_count(need);
-    *numbers_needed = command::second_count(need);
-    command::counts_number(need)
+    command::tell(
+        estimate::tray_estimate(count),
+        codes_needed,
+        numbers_needed,
+    )
 }
 
 #[no_mangle]
@@ -143,9 +140,7 @@ pub extern "C" fn jengafir_merge(
         (now (codes .entry)) (now (codes .exit)) (now (numbers .entry)) (now (numbers .exit)) ⌝ }
 {
     let drawn = join::draw_merge(rows, row_count, items, codes, numbers);
-    *codes_written = command::first_count(drawn);
-    *numbers_written = command::second_count(drawn);
-    command::counts_number(drawn)
+    command::tell(drawn, codes_written, numbers_written)
 }
 
 #[no_mangle]
@@ -171,10 +166,7 @@ pub extern "C" fn jengafir_command(
 ) -> u32
     ensures { λ r. ⌜ Counted (findCommand (now (codes .entry)) (now (numbers .entry)) k) r (now (start .exit)) (now (count .exit)) ⌝ }
 {
-    let found = judge::find_command(codes, numbers, k);
-    *start = command::first_count(found);
-    *count = command::second_count(found);
-    command::counts_number(found)
+    command::tell(judge::find_command(codes, numbers, k), start, count)
 }
 
 #[no_mangle]

@@ -16,15 +16,15 @@ use Rattle.draw.specs.Items.{drawSource}
 use Rattle.merge.specs.Decision.{decision}
 use Rattle.join.specs.Merge.{followedBy, drawSources, drawJoined, drawMerge}
 use Rattle.join.specs.Joined.{JoinedRow}
-use Rattle.ieee.specs.Single.{AllSingle}
+use Rattle.ieee.specs.Single.{Single, AllSingle}
 use Rattle.draw.proofs.Single.{ReadSingle, source-single}
-use Rattle.ieee.proofs.Single.{single-append}
+use Rattle.ieee.proofs.Each.{each-append}
 
 followed-single : (o p : Outcome (List PathCommand)) → AllSingle (numbersOf (listOf o)) → AllSingle (numbersOf (listOf p)) → AllSingle (numbersOf (listOf (followedBy o p)))
 unfolding followedBy
 followed-single (refused r) p O P = tt
 followed-single (accepted cs) (refused r) O P = tt
-followed-single (accepted cs) (accepted ds) O P = subst AllSingle (sym (numbers-append cs ds)) (single-append (numbersOf cs) (numbersOf ds) O P)
+followed-single (accepted cs) (accepted ds) O P = subst AllSingle (sym (numbers-append cs ds)) (each-append Single (numbersOf cs) (numbersOf ds) O P)
 
 sources-single : (rows : List ℕ) (items : List Float) (numbers : List ℕ) → ((i : ℕ) → i < length numbers → ReadSingle (itemRow rows (getD numbers i 0)) items)
     → AllSingle (numbersOf (listOf (drawSources (map (itemRow rows) numbers) items)))

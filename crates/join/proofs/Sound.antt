@@ -7,13 +7,12 @@ use native.Mathlib.Omega.{arith}
 use lib.Ieee.{Float}
 use lib.ListN.{length, length-append, length-map}
 use Rattle.ieee.specs.Limit.{allWithin}
-use Rattle.ieee.proofs.Bounds.{all-within→bounded, all-bounded→within, all-bounded-append}
+use Rattle.ieee.proofs.Each.{within-append}
 use Rattle.command.specs.declared.PathCommand.{PathCommand}
 use Rattle.command.specs.Commands.{numbersOf, commandLimit}
 use Rattle.command.specs.Outcomes.{Outcome, refused, accepted, andThen, listOf}
 use Rattle.command.proofs.Outcomes.{refused-accepted}
 use Rattle.command.proofs.Passes.{numbers-append}
-use Rattle.command.proofs.Enlarged.{limit-value}
 use Rattle.item.specs.declared.ItemRow.{ItemRow}
 use Rattle.item.specs.Rows.{itemRow}
 use Rattle.draw.specs.Items.{drawSource}
@@ -24,17 +23,11 @@ use Rattle.join.specs.Merge.{followedBy, drawSources, drawJoined, drawMe
 use Rattle.join.proofs.Joined.{joined-few}
 
 -- ---- the numbers
-within-append : (xs ys : List Float) → allWithin commandLimit xs ≡ true → allWithin commandLimit ys ≡ true → allWithin commandLimit (xs ++ ys) ≡ true
-within-append xs ys X Y =
-    let n : ℕ = 4194304 in
-    all-bounded→within n commandLimit (xs ++ ys) limit-value
-    (all-bounded-append n xs ys (all-within→bounded n commandLimit xs limit-value X) (all-within→bounded n commandLimit ys limit-value Y))
-
 followed-sound : (o p : Outcome (List PathCommand)) → SoundOutcome o → SoundOutcome p → SoundOutcome (followedBy o p)
 unfolding followedBy
 followed-sound (refused r) p O P = refusal-sound
 followed-sound (accepted cs) (refused r) O P = refusal-sound
-followed-sound (accepted cs) (accepted ds) O P = rw (numbers-append cs ds) (within-append (numbersOf cs) (numbersOf ds) O P)
+followed-sound (accepted cs) (accepted ds) O P = rw (numbers-append cs ds, within-append commandLimit (numbersOf cs) (numbersOf ds), O, P)
 
 sources-sound : (rs : List ItemRow) (items : List Float) → SoundOutcome (drawSources rs items)
 unfolding drawSources

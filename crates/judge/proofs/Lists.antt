@@ -1,7 +1,7 @@
 -- Commands that are written as codes and numbers are read back as themselves, and an accepted list is its commands written so.
 -- Assumes nothing.
 use mathlib.Core.Path.{_≡_, refl, sym, ap, _∙_}
-use mathlib.Core.Bool.{Bool, true, false, _&&_, and-eq-true-iff}
+use mathlib.Core.Bool.{true, and-eq-true-iff}
 use mathlib.Core.List.{List, [], _∷_, _++_}
 use Prim.Native.Nat.{ℕ, _≤_}
 use native.Mathlib.Omega.{arith}
@@ -9,7 +9,8 @@ use lib.Ieee.{Float}
 use lib.ListN.{length, take, drop, take-append-drop}
 use lib.Seq.{drop-append-seam}
 use borrow.Author.Tests.{le-ltb}
-use Rattle.ieee.specs.Limit.{within, allWithin}
+use Rattle.ieee.specs.Limit.{allWithin}
+use Rattle.ieee.proofs.Each.{within-append}
 use Rattle.command.specs.declared.PathCommand.{PathCommand}
 use Rattle.command.specs.declared.Refusal.the-variants.{OutOfBounds}
 use Rattle.command.specs.Commands.{codeOf, coordinatesOf, codesOf, numbersOf, commandLimit}
@@ -21,15 +22,6 @@ use Rattle.reader.proofs.Commands.{size-of, command-read, accepted-read, code-a
 use Rattle.judge.specs.Lists.{before, readList, judgeList}
 use Rattle.judge.proofs.Walk.{left-over}
 use Rattle.judge.proofs.Ways.{front}
-
-within-append : (limit : Float) (xs ys : List Float) → allWithin limit (xs ++ ys) ≡ (allWithin limit xs && allWithin limit ys)
-unfolding allWithin
-within-append limit [] ys = refl
-within-append limit (x ∷ xs) ys = go (within limit x) (allWithin limit (xs ++ ys)) (allWithin limit xs) (allWithin limit ys) (within-append limit xs ys)
-  where
-    go : (b p q r : Bool) → p ≡ (q && r) → (b && p) ≡ ((b && q) && r)
-    go true p q r e = e
-    go false p q r e = refl
 
 -- one command in front
 front-read : (c : PathCommand) (codes : List ℕ) (v : List Float) → allWithin commandLimit (coordinatesOf c) ≡ true

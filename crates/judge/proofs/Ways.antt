@@ -10,7 +10,7 @@ use native.Mathlib.Omega.{arith}
 use lib.Dec.{ltb}
 use lib.Ieee.{Float}
 use lib.ListN.{length, getD, take, drop, length-drop}
-use borrow.Author.Tests.{lt-ltb, le-ltb, ltb-false, ltb-true}
+use borrow.Author.Tests.{lt-ltb, le-ltb, ltb-false, ltb-true, not-false}
 use Rattle.command.specs.declared.PathCommand.{PathCommand}
 use Rattle.command.specs.declared.Refusal.{Refusal}
 use Rattle.command.specs.declared.Refusal.the-variants.{TooMany, OutOfBounds}
@@ -181,10 +181,6 @@ answer-of : (codes : List ℕ) (numbers : List Float) (k : ℕ) (ps : List PathC
 unfolding judgeCommand askedFor
 answer-of codes numbers k ps e = go (judgeList codes numbers) refl e
   where
-    held : (b : Bool) → not b ≡ false → b ≡ true
-    held true e = refl
-    held false e = sym e
-
     go : (o : Outcome (List PathCommand)) → judgeList codes numbers ≡ o → andThen o (askedFor k (length codes)) ≡ accepted ps → Answer codes numbers k
     go (refused r) p e = refused-accepted r ps e
     go (accepted cs) p e =
@@ -192,7 +188,7 @@ answer-of codes numbers k ps e = go (judgeList codes numbers) refl e
         let t = checks-passed ((not (ltb k (length codes)) gives OutOfBounds) ∷ []) (accepted cs) ps e in
         record {
           few = s .0;
-          there = ltb-true k (length codes) (held (ltb k (length codes)) (t .0 .0));
+          there = ltb-true k (length codes) (not-false (ltb k (length codes)) (t .0 .0));
           commands = cs;
           is-read = s .1;
           is = ap (λ (x : Outcome (List PathCommand)). andThen x (askedFor k (length codes))) p ∙ e ∙ sym (t .1);

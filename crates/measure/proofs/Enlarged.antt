@@ -13,7 +13,8 @@ use Rattle.command.specs.declared.PathCommand.{PathCommand}
 use Rattle.command.specs.declared.PathCommand.the-variants.{Move, Line, Cubic, Close, Quad}
 use Rattle.command.specs.Commands.{coordinatesOf, numbersOf}
 use Rattle.command.specs.Enlarged.{enlarged, AllOn, CommandTwin, Twins}
-use Rattle.command.proofs.Enlarged.{all-split, twins-take}
+use Rattle.command.proofs.Enlarged.{twins-take}
+use Rattle.ieee.proofs.Each.{each-split}
 use Rattle.point.specs.declared.Point.{Point}
 use Rattle.curve.specs.Curve.{distance, quadLength, cubicLength}
 use Rattle.curve.proofs.Enlarged.{PointTwin, distance-twin, quad-twin, cubic-twin}
@@ -103,7 +104,7 @@ module _ {k q b : ℕ} (Q : q + 56 ≤ 149) (B : b + 55 + k ≤ 127) where
   enlarged-twins : {p p' : Pen} (cs : List PathCommand) → PenTwin k q b p p' → AllOn q b (numbersOf cs) → PenTwin k q b (steps p cs) (steps p' (map (enlarged k) cs))
   unfolding steps
   enlarged-twins [] P C = P
-  enlarged-twins (c ∷ cs) P C = let s = all-split q b (coordinatesOf c) (numbersOf cs) C in enlarged-twins cs (enlarged-twin P c (s .0)) (s .1)
+  enlarged-twins (c ∷ cs) P C = let s = each-split (On q b) (coordinatesOf c) (numbersOf cs) C in enlarged-twins cs (enlarged-twin P c (s .0)) (s .1)
 
   pub steps-twins : {p p' : Pen} {cs cs' : List PathCommand} → PenTwin k q b p p' → Twins k q b cs cs' → PenTwin k q b (steps p cs) (steps p' cs')
   steps-twins {p} {p'} {cs} P C = subst (λ (ds : List PathCommand). PenTwin k q b (steps p cs) (steps p' ds)) (sym (C .commands)) (enlarged-twins cs P (C .grid))

@@ -16,7 +16,8 @@ use Rattle.ieee.specs.Operators.{_⊕_}
 use Rattle.ieee.specs.Limit.{allWithin, Bounded, AllBounded}
 use Rattle.ieee.proofs.Order as Order
 use Rattle.ieee.proofs.Monotone.{add-ge, add-le-right}
-use Rattle.ieee.proofs.Bounds.{reach-absorb, zero-bounded, bounded-finite, bounded-number, bounded-weaken, add-bounded, all-bounded-split}
+use Rattle.ieee.proofs.Bounds.{reach-absorb, zero-bounded, bounded-finite, bounded-number, bounded-weaken, add-bounded}
+use Rattle.ieee.proofs.Each.{each-split}
 use Rattle.command.specs.declared.PathCommand.{PathCommand}
 use Rattle.command.specs.declared.PathCommand.the-variants.{Move, Line, Cubic, Close, Quad}
 use Rattle.command.specs.Commands.{coordinatesOf, numbersOf, commandLimit}
@@ -156,7 +157,7 @@ steps-after : (pen : Pen) (cs : List PathCommand) → SoundPen pen → AllBounde
 unfolding steps
 steps-after pen [] P C = record { sound = P; rise = still (pen .length) (P .running) .rise }
 steps-after pen (c ∷ cs) P C =
-    let t = all-bounded-split (2 ^ 22) (coordinatesOf c) (numbersOf cs) C in
+    let t = each-split (Bounded (2 ^ 22)) (coordinatesOf c) (numbersOf cs) C in
     let a = step-after pen c P (t .0) in
     let b = steps-after (step pen c) cs (a .sound) (t .1) in
     record { sound = b .sound; rise = Order.le-trans (pen .length) (step pen c .length) (steps (step pen c) cs .length) (a .rise) (b .rise) }
@@ -167,7 +168,7 @@ steps-rise pen cs zero j h P C = steps-after pen (take j cs) P (bounded-take (2 
 steps-rise pen cs (suc i) zero h P C = absurd (not-suc-le-zero h)
 steps-rise pen [] (suc i) (suc j) h P C = still (pen .length) (P .running) .rise
 steps-rise pen (c ∷ cs) (suc i) (suc j) h P C =
-    let t = all-bounded-split (2 ^ 22) (coordinatesOf c) (numbersOf cs) C in
+    let t = each-split (Bounded (2 ^ 22)) (coordinatesOf c) (numbersOf cs) C in
     steps-rise (step pen c) cs i j (le-of-suc-le-suc h) (step-after pen c P (t .0) .sound) (t .1)
 
 -- ---- one command more

@@ -14,7 +14,8 @@ use Rattle.command.proofs.Passes.{numbers-append}
 use Rattle.path.specs.declared.BezierVertex.{BezierVertex}
 use Rattle.path.specs.Path.{verticesOf, outX, outY, inX, inY, isLine, bezierSegment, bezierSegments, bezierPath, pathCommands}
 use Rattle.ieee.specs.Single.{AllSingle, Single}
-use Rattle.ieee.proofs.Single.{add-single, single-append}
+use Rattle.ieee.proofs.Single.{add-single}
+use Rattle.ieee.proofs.Each.{each-append}
 
 abbrev AllEnds : List BezierVertex → Type 0
 AllEnds [] = Unit {0}
@@ -35,7 +36,7 @@ segment-single a b X Y = go (isLine a b)
 segments-single : (a : BezierVertex) (bs : List BezierVertex) → AllEnds bs → AllSingle (numbersOf (bezierSegments a bs))
 unfolding bezierSegments
 segments-single a [] E = tt
-segments-single a (b ∷ bs) E = single-append (coordinatesOf (bezierSegment a b)) (numbersOf (bezierSegments b bs)) (segment-single a b (E .0 .0) (E .0 .1)) (segments-single b bs (E .1))
+segments-single a (b ∷ bs) E = each-append Single (coordinatesOf (bezierSegment a b)) (numbersOf (bezierSegments b bs)) (segment-single a b (E .0 .0) (E .0 .1)) (segments-single b bs (E .1))
 
 path-single : (closed : Bool) (vs : List BezierVertex) → AllEnds vs → AllSingle (numbersOf (bezierPath closed vs))
 unfolding bezierPath
@@ -48,7 +49,7 @@ path-single true (a ∷ (b ∷ bs)) E =
       (
         E .0 .1,
         subst AllSingle (sym (numbers-append (bezierSegments a round) (Close ∷ [])))
-            (single-append (numbersOf (bezierSegments a round)) [] (segments-single a round (ends-append (b ∷ bs) a (E .1) (E .0 .0) (E .0 .1))) tt),
+            (each-append Single (numbersOf (bezierSegments a round)) [] (segments-single a round (ends-append (b ∷ bs) a (E .1) (E .0 .0) (E .0 .1))) tt),
       ),
     )
 

@@ -11,7 +11,8 @@ use lib.Ieee.Exact.{HasValue}
 use lib.ListN.{length, getD, take, drop}
 use lib.Seq.{getD-drop}
 use Rattle.ieee.specs.Limit.{allWithin, Bounded, AllBounded}
-use Rattle.ieee.proofs.Bounds.{Reach, reach-pow, bounded-weaken, add-bounded, all-bounded-append, all-bounded-at, all-within→bounded}
+use Rattle.ieee.proofs.Each.{each-append}
+use Rattle.ieee.proofs.Bounds.{Reach, reach-pow, bounded-weaken, add-bounded, all-bounded-at, all-within→bounded}
 use Rattle.command.specs.declared.PathCommand.the-variants.{Line, Cubic, Close}
 use Rattle.command.specs.Commands.{coordinatesOf, numbersOf, commandLimit}
 use Rattle.command.proofs.Bounds.{bounded-append, commands→within}
@@ -77,7 +78,7 @@ module _ (n c : ℕ) (W : n ≤ c) (R : Reach binary32 (n + n) c) where
   unfolding bezierSegments
   segments-bounded a [] A B = tt
   segments-bounded a (b ∷ bs) A B =
-      all-bounded-append c (coordinatesOf (bezierSegment a b)) (numbersOf (bezierSegments b bs)) (segment-bounded a b A (B .0)) (segments-bounded b bs (B .0) (B .1))
+      each-append (Bounded c) (coordinatesOf (bezierSegment a b)) (numbersOf (bezierSegments b bs)) (segment-bounded a b A (B .0)) (segments-bounded b bs (B .0) (B .1))
 
   bezier-bounded : (closed : Bool) (vs : List BezierVertex) → VerticesBounded n vs → AllBounded c (numbersOf (bezierPath closed vs))
   unfolding bezierPath

@@ -1,8 +1,59 @@
-// Bit patterns of numbers in text, as the vectors programs read and print them.
+// The lines of a text and the bit patterns of numbers in them, as the vectors programs read and print them.
 // A line of theirs is a word of at most eight letters and numbers of eight hexadecimal digits, one blank before each.
 ghost use Prim.Native.Nat.{_<_, _≤_};
 use command::Counts;
+use command::Refusal;
 use libc::STDOUT_FILENO;
+
+// How many line ends a byte is.
+fn line_ends(b: u8) -> usize
+    ensures { λ r. ⌜ r ≤ 1 ⌝ }
+{
+    if b == b'\n' { 1 } else { 0 }
+}
+
+// How many lines of a text have their line end.
+pub fn line_count(text: &[u8]) -> usize {
+    let mut count = 0;
+    for i in 0..text.len() {
+        count += line_ends(text[i]);
+    }
+    count
+}
+
+// Where line k of a text starts, and the text's length where it has fewer lines.
+fn line_start(text: &[u8], k: usize) -> usize
+    ensures { λ r. do ⌜ r ≤ (← ⟦text.len()⟧ .entry) ⌝ }
+{
+    let mut left = k;
+    for i in 0..text.len() {
+        if left == 0 {
+            return i;
+        }
+        left -= line_ends(text[i]);
+    }
+    text.len()
+}
+
+// Where the first line end from `start` on stands, and the text's length where there is none.
+fn line_end(text: &[u8], start: usize) -> usize
+    requires { do ⌜ start ≤ (← ⟦text.len()⟧) ⌝ }
+    ensures { λ r. do ⌜ (start ≤ r) × (r ≤ (← ⟦text.len()⟧ .entry)) ⌝ }
+{
+    for i in start..text.len() {
+        if text[i] == b'\n' {
+            return i;
+        }
+    }
+    text.len()
+}
+
+// Line k of a text, counted from 0, without its line end.
+pub fn line<'a>(text: &'a [u8], k: usize) -> &'a [u8] {
+    let start = line_start(text, k);
+    let end = line_end(text, start);
+    &text[start..end]
+}
 
 // The pattern that the eight hexadecimal digits from `at` on are.
 pub fn pattern(line: &[u8], at: usize) -> u32
@@ -61,7 +112,7 @@ fn given(line: &[u8], first: usize) -> usize {
 }
 
 // The remainder of i by n, and 0 where that is none or beyond what a line may have.
-pub fn cyclic(i: usize, n: usize) -> usize
+fn cyclic(i: usize, n: usize) -> usize
     ensures { λ r. ⌜ r < 1000 ⌝ }
 {
     if n == 0 {
@@ -76,10 +127,8 @@ pub fn fill(list: &mut [f32], line: &[u8], first: usize)
     requires { ⌜ first < 1000 ⌝ }
 {
     let n = given(line, first);
-    let mut i = 0;
-    while i < list.len() {
+    for i in 0..list.len() {
         list[i] = number(field(line, first + cyclic(i, n)));
-        i += 1;
     }
 }
 
@@ -88,25 +137,33 @@ pub fn low_byte(x: u32) -> u8 {
 }
 
 // Fills a list of codes with n numbers of a line from a place on, over and over.
-pub fn fill_codes(codes: &mut [u8], line: &[u8], first: usize, n: usize)
+fn fill_codes(codes: &mut [u8], line: &[u8], first: usize, n: usize)
     requires { ⌜ first < 1000 ⌝ }
 {
-    let mut i = 0;
-    while i < codes.len() {
+    for i in 0..codes.len() {
         codes[i] = low_byte(field(line, first + cyclic(i, n)));
-        i += 1;
     }
+}
+
+// Fills the codes and the numbers of a path. At the place stands how many codes the line has, and the rest of the line follows.
+pub fn fill_path(codes: &mut [u8], numbers: &mut [f32], line: &[u8], place: usize)
+    requires { ⌜ place < 90 ⌝ }
+{
+    let given = lent(line, place, 900);
+    fill_codes(codes, line, place + 1, given);
+    fill(numbers, line, place + 1 + given);
 }
 
 pub fn size(x: u32) -> usize {
     x as usize
 }
 
-// x, or the most where x is more.
-pub fn at_most(x: u32, most: usize) -> usize
+// The line's number at a place, or the most where that is more.
+pub fn lent(line: &[u8], place: usize, most: usize) -> usize
+    requires { ⌜ place < 10000 ⌝ }
     ensures { λ r. ⌜ r ≤ most ⌝ }
 {
-    let n = size(x);
+    let n = size(field(line, place));
     if n < most { n } else { most }
 }
 
@@ -129,11 +186,9 @@ pub fn print(x: f32) {
 
 // Writes the patterns of a list, with a blank before each.
 pub fn print_list(list: &[f32]) {
-    let mut i = 0;
-    while i < list.len() {
+    for i in 0..list.len() {
         io::write_all(STDOUT_FILENO, b" ");
         print(list[i]);
-        i += 1;
     }
 }
 
@@ -141,9 +196,9 @@ pub fn print_decimal(x: usize) {
     io::print_decimal(STDOUT_FILENO, wide_size(x));
 }
 
-pub fn print_refusal(number: u32) {
+pub fn print_refusal(refusal: Refusal) {
     io::write_all(STDOUT_FILENO, b"refused ");
-    io::print_decimal(STDOUT_FILENO, wide(number));
+    io::print_decimal(STDOUT_FILENO, wide(command::refusal_number(refusal)));
     io::write_all(STDOUT_FILENO, b"\n");
 }
 
@@ -152,39 +207,41 @@ fn wide_byte(x: u8) -> u64 {
 }
 
 // Writes what a buffer of codes holds, on a line.
-pub fn print_codes(codes: &[u8]) {
+fn print_codes(codes: &[u8]) {
     io::write_all(STDOUT_FILENO, b"codes");
-    let mut i = 0;
-    while i < codes.len() {
+    for i in 0..codes.len() {
         io::write_all(STDOUT_FILENO, b" ");
         io::print_hex(STDOUT_FILENO, wide_byte(codes[i]), 2);
-        i += 1;
     }
     io::write_all(STDOUT_FILENO, b"\n");
 }
 
 // Writes what a buffer of numbers holds, on a line.
-pub fn print_numbers(numbers: &[f32]) {
+fn print_numbers(numbers: &[f32]) {
     io::write_all(STDOUT_FILENO, b"numbers");
     print_list(numbers);
     io::write_all(STDOUT_FILENO, b"\n");
 }
 
-// Writes how many codes and numbers a call has written.
-pub fn print_written(codes: usize, numbers: usize) {
-    io::write_all(STDOUT_FILENO, b"written ");
-    print_decimal(codes);
+fn print_pair(word: &[u8], n: usize, m: usize) {
+    io::write_all(STDOUT_FILENO, word);
+    print_decimal(n);
     io::write_all(STDOUT_FILENO, b" ");
-    print_decimal(numbers);
+    print_decimal(m);
     io::write_all(STDOUT_FILENO, b"\n");
+}
+
+// Writes the answer of a call on a line, with a word before two counts.
+pub fn print_counts(word: &[u8], counts: Counts) {
+    match counts {
+        Counts::Refused(refusal) => print_refusal(refusal),
+        Counts::Of(n, m) => print_pair(word, n, m),
+    }
 }
 
 // Writes the answer of a call that fills two buffers, and what they hold after it.
 pub fn print_drawn(drawn: Counts, codes: &[u8], numbers: &[f32]) {
-    match drawn {
-        Counts::Refused(refusal) => print_refusal(command::refusal_number(refusal)),
-        Counts::Of(n, m) => print_written(n, m),
-    }
+    print_counts(b"written ", drawn);
     print_codes(codes);
     print_numbers(numbers);
 }

@@ -8,7 +8,7 @@ use lib.Dec.{eqb, ltb}
 use lib.Ieee.{Float}
 use lib.ListN.{length, take, drop, length-append}
 use lib.Seq.{take-append-seam}
-use borrow.Author.Tests.{le-ltb, ltb-false}
+use borrow.Author.Tests.{le-ltb, ltb-false, not-false}
 use Rattle.ieee.specs.Limit.{allWithin}
 use Rattle.command.specs.declared.PathCommand.{PathCommand}
 use Rattle.command.specs.declared.PathCommand.the-variants.{Move, Line, Cubic, Close, Quad}
@@ -68,15 +68,11 @@ unfolding readCommand commandChecks
 accepted-read c v command e =
     let p = checks-passed (commandChecks c v) (accepted (commandAt c v)) command e in
     record {
-      listed = ltb-false 4 c (p .0 .0);
-      inside = ltb-false (length v) (sizeOfCode c) (p .0 .1 .0);
-      within = held (allWithin commandLimit (take (sizeOfCode c) v)) (p .0 .1 .1 .0);
+      listed = omega (arith, ltb-false, p .0);
+      inside = omega (arith, ltb-false, p .0);
+      within = let pass = p .0 in search not-false;
       is = cc;
     }
-  where
-    held : (b : Bool) → not b ≡ false → b ≡ true
-    held true e = refl
-    held false e = sym e
 
 -- a command in front of other numbers
 pub command-read : (c : PathCommand) (v : List Float) → allWithin commandLimit (coordinatesOf c) ≡ true → readCommand (codeOf c) (coordinatesOf c ++ v) ≡ accepted c

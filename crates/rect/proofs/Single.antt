@@ -4,7 +4,6 @@ use Rattle.ieee.specs.Operators.{_⊕_, _⊖_}
 use Rattle.ieee.specs.Single.{Single, AllSingle}
 use Rattle.ieee.proofs.Single.{add-single, sub-single}
 use Rattle.command.specs.Commands.{numbersOf}
-use Rattle.command.proofs.Each.{each-single}
 use Rattle.rect.specs.declared.Bounds.{Bounds}
 use Rattle.rect.specs.Bounds.{rectBounds}
 use Rattle.rect.specs.Rect.{cornerRadius, tangentOf, rectPath}
@@ -28,4 +27,4 @@ numbers-single box q B = record {
 }
 
 pub rect-single : (cx cy w h roundness : Float) → AllSingle (numbersOf (rectPath (rectBounds cx cy w h) (cornerRadius w h roundness)))
-rect-single cx cy w h roundness = each-single (rect-each (numbers-single (rectBounds cx cy w h) (cornerRadius w h roundness) (bounds-single cx cy w h)))
+rect-single cx cy w h roundness = rect-each (numbers-single (rectBounds cx cy w h) (cornerRadius w h roundness) (bounds-single cx cy w h)) .numbers

@@ -15,7 +15,6 @@ use Rattle.ieee.proofs.Bounds.{Times, reach-whole, zero-bounded, bounded-number
 use Rattle.ieee.proofs.Bounds.{add-bounded, sub-bounded, mul-times, mul-bounded}
 use Rattle.command.specs.Commands.{numbersOf, commandLimit}
 use Rattle.command.proofs.Bounds.{commands→within}
-use Rattle.command.proofs.Each.{each-bounded}
 use Rattle.rect.specs.declared.Bounds.{Bounds}
 use Rattle.rect.specs.Bounds.{half, rectBounds}
 use Rattle.rect.specs.Rect.{roundRectKappa, cornerRadius, tangentOf, rectPath}
@@ -83,4 +82,4 @@ rect-sound cx cy w h roundness X Y W H R =
     let box = rectBounds cx cy w h in
     let q = cornerRadius w h roundness in
     let numbers = numbers-bounded box q (bounds-bounded cx cy w h X Y W H) (radius-bounded w h roundness W H R) in
-    commands→within (rectPath box q) (each-bounded (rect-each numbers))
+    commands→within (rectPath box q) (rect-each numbers .numbers)

@@ -2,7 +2,6 @@
 // behind.
 // tools/draw_vectors.py makes the lines and says how they read.
 ghost use Prim.Native.Nat.{_<_};
-use command::Counts;
 use libc::STDIN_FILENO;
 use libc::STDOUT_FILENO;
 
@@ -20,8 +19,8 @@ fn draw_path(line: &[u8], vertices: &[f32], codes: &mut [u8], numbers: &mut [f32
 
 // Draws a row of which the first entries are lent, so many as the line says.
 fn draw_row(line: &[u8], row: &[u32], items: &[f32], codes: &mut [u8], numbers: &mut [f32]) {
-    let entries = pattern_text::at_most(pattern_text::field(line, 0), row.len());
-    let drawn = draw::draw_item(&row[..entries], items, codes, numbers);
+    let entries = pattern_text::lent(line, 0, row.len());
+    let drawn = draw::draw_item(&row[0..entries], items, codes, numbers);
     pattern_text::print_drawn(drawn, codes, numbers);
 }
 
@@ -60,10 +59,10 @@ fn lengths_place(line: &[u8]) -> usize
 fn lend(line: &[u8], list: &mut [f32], codes: &mut [u8], numbers: &mut [f32]) {
     let place = lengths_place(line);
     pattern_text::fill(list, line, place + 3);
-    let lent = pattern_text::at_most(pattern_text::field(line, place), list.len());
-    let n = pattern_text::at_most(pattern_text::field(line, place + 1), codes.len());
-    let m = pattern_text::at_most(pattern_text::field(line, place + 2), numbers.len());
-    draw(line, &list[..lent], &mut codes[..n], &mut numbers[..m]);
+    let lent = pattern_text::lent(line, place, list.len());
+    let n = pattern_text::lent(line, place + 1, codes.len());
+    let m = pattern_text::lent(line, place + 2, numbers.len());
+    draw(line, &list[0..lent], &mut codes[0..n], &mut numbers[0..m]);
 }
 
 fn draw_line(line: &[u8]) {
@@ -71,21 +70,6 @@ fn draw_line(line: &[u8]) {
     let mut codes = [0xee; 1030];
     let mut numbers = [-77.25; 6150];
     lend(line, &mut list, &mut codes, &mut numbers);
-}
-
-fn print_room(codes: usize, numbers: usize) {
-    io::write_all(STDOUT_FILENO, b"room ");
-    pattern_text::print_decimal(codes);
-    io::write_all(STDOUT_FILENO, b" ");
-    pattern_text::print_decimal(numbers);
-    io::write_all(STDOUT_FILENO, b"\n");
-}
-
-fn print_need(need: Counts) {
-    match need {
-        Counts::Refused(refusal) => pattern_text::print_refusal(command::refusal_number(refusal)),
-        Counts::Of(codes, numbers) => print_room(codes, numbers),
-    }
 }
 
 fn is_estimate(line: &[u8]) -> bool {
@@ -97,27 +81,16 @@ fn answer(line: &[u8]) {
     io::write_all(STDOUT_FILENO, b"\n");
     if is_estimate(line) {
         let count = pattern_text::size(pattern_text::field(line, 0));
-        print_need(estimate::tray_estimate(count));
+        pattern_text::print_counts(b"room ", estimate::tray_estimate(count));
     } else {
         draw_line(line);
     }
 }
 
-// Answers each line of the text that has its line end.
-fn run(text: &[u8]) {
-    let mut start = 0;
-    let mut i = 0;
-    while i < text.len() {
-        if text[i] == b'\n' {
-            answer(&text[start..i]);
-            start = i + 1;
-        }
-        i += 1;
-    }
-}
-
 fn main() {
     let mut text = [0; 131072];
-    let n = io::read_full(STDIN_FILENO, &mut text);
-    run(&text[..n]);
+    io::read_full(STDIN_FILENO, &mut text);
+    for k in 0..pattern_text::line_count(&text) {
+        answer(pattern_text::line(&text, k));
+    }
 }

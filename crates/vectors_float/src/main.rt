@@ -41,12 +41,10 @@ fn result(line: &[u8]) -> f32 {
 
 // Whether the line starts with the word.
 fn starts(line: &[u8], word: &[u8]) -> bool {
-    let mut i = 0;
-    while i < word.len() {
+    for i in 0..word.len() {
         if pattern_text::byte(line, i) != word[i] {
             return false;
         }
-        i += 1;
     }
     true
 }
@@ -65,21 +63,10 @@ fn answer(line: &[u8]) {
     io::write_all(STDOUT_FILENO, b"\n");
 }
 
-// Answers each line of the text that has its line end.
-fn run(text: &[u8]) {
-    let mut start = 0;
-    let mut i = 0;
-    while i < text.len() {
-        if text[i] == b'\n' {
-            answer(&text[start..i]);
-            start = i + 1;
-        }
-        i += 1;
-    }
-}
-
 fn main() {
     let mut text = [0; 131072];
-    let n = io::read_full(STDIN_FILENO, &mut text);
-    run(&text[..n]);
+    io::read_full(STDIN_FILENO, &mut text);
+    for k in 0..pattern_text::line_count(&text) {
+        answer(pattern_text::line(&text, k));
+    }
 }

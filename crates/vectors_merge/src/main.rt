@@ -20,7 +20,7 @@ fn entry(row: u32, i: usize) -> u32 {
 fn given(line: &[u8]) -> usize
     ensures { λ r. ⌜ r < 300 ⌝ }
 {
-    pattern_text::at_most(pattern_text::field(line, 4), 299)
+    pattern_text::lent(line, 4, 299)
 }
 
 // The place in a line of row r, where it has n rows. The last one stands for all that follow.
@@ -33,10 +33,8 @@ fn row_place(r: usize, n: usize) -> usize
 
 fn fill_rows(rows: &mut [u32], line: &[u8]) {
     let n = given(line);
-    let mut i = 0;
-    while i < rows.len() {
+    for i in 0..rows.len() {
         rows[i] = entry(pattern_text::field(line, row_place(i / 6, n)), i % 6);
-        i += 1;
     }
 }
 
@@ -60,16 +58,16 @@ fn lend(line: &[u8], rows: &mut [u32], list: &mut [f32], codes: &mut [u8], numbe
     fill_rows(rows, line);
     change_entry(rows, line);
     pattern_text::fill(list, line, place + 3);
-    let entries = pattern_text::at_most(pattern_text::field(line, 1), rows.len());
-    let lent = pattern_text::at_most(pattern_text::field(line, place), list.len());
-    let n = pattern_text::at_most(pattern_text::field(line, place + 1), codes.len());
-    let m = pattern_text::at_most(pattern_text::field(line, place + 2), numbers.len());
+    let entries = pattern_text::lent(line, 1, rows.len());
+    let lent = pattern_text::lent(line, place, list.len());
+    let n = pattern_text::lent(line, place + 1, codes.len());
+    let m = pattern_text::lent(line, place + 2, numbers.len());
     merge(
         line,
-        &rows[..entries],
-        &list[..lent],
-        &mut codes[..n],
-        &mut numbers[..m],
+        &rows[0..entries],
+        &list[0..lent],
+        &mut codes[0..n],
+        &mut numbers[0..m],
     );
 }
 
@@ -83,21 +81,10 @@ fn answer(line: &[u8]) {
     lend(line, &mut rows, &mut list, &mut codes, &mut numbers);
 }
 
-// Answers each line of the text that has its line end.
-fn run(text: &[u8]) {
-    let mut start = 0;
-    let mut i = 0;
-    while i < text.len() {
-        if text[i] == b'\n' {
-            answer(&text[start..i]);
-            start = i + 1;
-        }
-        i += 1;
-    }
-}
-
 fn main() {
     let mut text = [0; 131072];
-    let n = io::read_full(STDIN_FILENO, &mut text);
-    run(&text[..n]);
+    io::read_full(STDIN_FILENO, &mut text);
+    for k in 0..pattern_text::line_count(&text) {
+        answer(pattern_text::line(&text, k));
+    }
 }

@@ -20,11 +20,9 @@ fn repeater_at(line: &[u8], first: usize) -> RepeaterStyle
 
 // Writes the numbers of an order, with a blank before each.
 fn print_order(order: &[u32]) {
-    let mut i = 0;
-    while i < order.len() {
+    for i in 0..order.len() {
         io::write_all(STDOUT_FILENO, b" ");
         io::print_hex(STDOUT_FILENO, pattern_text::wide(order[i]), 8);
-        i += 1;
     }
 }
 
@@ -36,7 +34,7 @@ fn print_count(n: usize) {
 
 fn print_written(written: Written) {
     match written {
-        Written::Refused(refusal) => pattern_text::print_refusal(command::refusal_number(refusal)),
+        Written::Refused(refusal) => pattern_text::print_refusal(refusal),
         Written::Count(n) => print_count(n),
     }
 }
@@ -60,13 +58,13 @@ fn answer_copy(line: &[u8], buffer: &mut [f32]) {
 
 // Lends the first places of a list, so many as the line says.
 fn lend_order(line: &[u8], buffer: &mut [u32]) {
-    let n = pattern_text::at_most(pattern_text::field(line, 1), buffer.len());
-    answer_order(line, &mut buffer[..n]);
+    let n = pattern_text::lent(line, 1, buffer.len());
+    answer_order(line, &mut buffer[0..n]);
 }
 
 fn lend_numbers(line: &[u8], buffer: &mut [f32]) {
-    let n = pattern_text::at_most(pattern_text::field(line, 2), buffer.len());
-    answer_copy(line, &mut buffer[..n]);
+    let n = pattern_text::lent(line, 2, buffer.len());
+    answer_copy(line, &mut buffer[0..n]);
 }
 
 fn answer(line: &[u8]) {
@@ -81,21 +79,10 @@ fn answer(line: &[u8]) {
     }
 }
 
-// Answers each line of the text that has its line end.
-fn run(text: &[u8]) {
-    let mut start = 0;
-    let mut i = 0;
-    while i < text.len() {
-        if text[i] == b'\n' {
-            answer(&text[start..i]);
-            start = i + 1;
-        }
-        i += 1;
-    }
-}
-
 fn main() {
     let mut text = [0; 131072];
-    let n = io::read_full(STDIN_FILENO, &mut text);
-    run(&text[..n]);
+    io::read_full(STDIN_FILENO, &mut text);
+    for k in 0..pattern_text::line_count(&text) {
+        answer(pattern_text::line(&text, k));
+    }
 }

@@ -58,27 +58,25 @@ fn answer_cut(total: f32, ranges: Ranges) {
 
 fn answer_ranges(line: &[u8]) {
     match cut::trim_ranges(trim_of(line)) {
-        Shown::Refused(refusal) => pattern_text::print_refusal(command::refusal_number(refusal)),
+        Shown::Refused(refusal) => pattern_text::print_refusal(refusal),
         Shown::Visible(ranges) => answer_visible(ranges),
     }
 }
 
 // Cuts the path of two lists, which it fills.
 fn answer_lengths(line: &[u8], codes: &mut [u8], numbers: &mut [f32]) {
-    let codes_given = pattern_text::at_most(pattern_text::field(line, 6), 900);
-    pattern_text::fill_codes(codes, line, 7, codes_given);
-    pattern_text::fill(numbers, line, 7 + codes_given);
+    pattern_text::fill_path(codes, numbers, line, 6);
     match cut::trim_lengths(trim_of(line), codes, numbers) {
-        Trimmed::Refused(refusal) => pattern_text::print_refusal(command::refusal_number(refusal)),
+        Trimmed::Refused(refusal) => pattern_text::print_refusal(refusal),
         Trimmed::Cut(total, ranges) => answer_cut(total, ranges),
     }
 }
 
 // Lends the first places of two lists, so many as the line says.
 fn lend(line: &[u8], codes: &mut [u8], numbers: &mut [f32]) {
-    let n = pattern_text::at_most(pattern_text::field(line, 4), codes.len());
-    let m = pattern_text::at_most(pattern_text::field(line, 5), numbers.len());
-    answer_lengths(line, &mut codes[..n], &mut numbers[..m]);
+    let n = pattern_text::lent(line, 4, codes.len());
+    let m = pattern_text::lent(line, 5, numbers.len());
+    answer_lengths(line, &mut codes[0..n], &mut numbers[0..m]);
 }
 
 fn answer(line: &[u8]) {
@@ -93,21 +91,10 @@ fn answer(line: &[u8]) {
     }
 }
 
-// Answers each line of the text that has its line end.
-fn run(text: &[u8]) {
-    let mut start = 0;
-    let mut i = 0;
-    while i < text.len() {
-        if text[i] == b'\n' {
-            answer(&text[start..i]);
-            start = i + 1;
-        }
-        i += 1;
-    }
-}
-
 fn main() {
     let mut text = [0; 131072];
-    let n = io::read_full(STDIN_FILENO, &mut text);
-    run(&text[..n]);
+    io::read_full(STDIN_FILENO, &mut text);
+    for k in 0..pattern_text::line_count(&text) {
+        answer(pattern_text::line(&text, k));
+    }
 }

@@ -7,14 +7,8 @@ use Rattle.jengafir.proofs.jengafir_draw_path.Tie as tie
 draw-path-requires : tie.Need-draw-path-requires
 draw-path-requires c κs = search needs
 
-first-count-requires : tie.Need-first-count-requires
-first-count-requires c κs = search needs
-
-second-count-requires : tie.Need-second-count-requires
-second-count-requires c κs = search needs
-
-counts-number-requires : tie.Need-counts-number-requires
-counts-number-requires c κs = search needs
+tell-requires : tie.Need-tell-requires
+tell-requires c κs = search needs
 
 same-length : tie.Need-same-length
 same-length c = search needs
@@ -27,12 +21,4 @@ returns c = search (needs, both-told)
 
 pub jengafir-draw-path-spec : {M : Type 1} → statement M
 jengafir-draw-path-spec =
-    tie.close
-    (tie.spec
-    draw-path-requires
-    first-count-requires
-    second-count-requires
-    counts-number-requires
-    same-length
-    same-length-2
-    returns)
+    tie.close (tie.spec draw-path-requires tell-requires same-length same-length-2 returns)

@@ -7,14 +7,8 @@ use Rattle.jengafir.proofs.jengafir_merge.Tie as tie
 draw-merge-requires : tie.Need-draw-merge-requires
 draw-merge-requires c κs = search needs
 
-first-count-requires : tie.Need-first-count-requires
-first-count-requires c κs = search needs
-
-second-count-requires : tie.Need-second-count-requires
-second-count-requires c κs = search needs
-
-counts-number-requires : tie.Need-counts-number-requires
-counts-number-requires c κs = search needs
+tell-requires : tie.Need-tell-requires
+tell-requires c κs = search needs
 
 same-length : tie.Need-same-length
 same-length c = search needs
@@ -27,12 +21,4 @@ returns c = search (needs, both-told)
 
 pub jengafir-merge-spec : {M : Type 1} → statement M
 jengafir-merge-spec =
-    tie.close
-    (tie.spec
-    draw-merge-requires
-    first-count-requires
-    second-count-requires
-    counts-number-requires
-    same-length
-    same-length-2
-    returns)
+    tie.close (tie.spec draw-merge-requires tell-requires same-length same-length-2 returns)

@@ -6,17 +6,7 @@ use Rattle.ieee.proofs.Pattern.{rest-ok}
 use Rattle.pattern_text.proofs.number.Statement.{statement}
 use Rattle.pattern_text.proofs.number.Tie as tie
 
-float-from-bits-result : tie.Need-float-from-bits-result
-float-from-bits-result c = rest-ok _ (omega (arith, leb-true))
-
-nan-requires : tie.Need-nan-requires
-nan-requires c κs = search needs
-
-returns : tie.Need-returns
-returns c = search needs
-
-returns-2 : tie.Need-returns-2
-returns-2 c = search needs
-
 pub number-spec : {M : Type 1} → statement M
-number-spec = tie.close (tie.spec float-from-bits-result nan-requires returns returns-2)
+number-spec =
+    tie.close
+    (tie.spec (λ c. rest-ok _ (omega (arith, leb-true))) (search needs) (search needs) (search needs))
