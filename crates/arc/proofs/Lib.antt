@@ -1,4 +1,4 @@
 -- What the proofs of `arc` cite.
-pub mod Filled
+pub mod Traced
 pub mod End
 pub mod Ways

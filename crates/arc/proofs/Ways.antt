@@ -22,8 +22,8 @@ use Rattle.polyline.specs.Polyline.{pointAt, FiniteTo}
 use Rattle.polyline.proofs.Callers.{xs-finite, ys-finite, chords-agree}
 use Rattle.flatten.specs.Level.{Coordinates, QuadCoordinates, AllNear}
 use Rattle.flatten.proofs.Near.{along-x, along-y, quad-along-x, quad-along-y}
-use Rattle.arc.specs.Filled.{Filled, Thirds}
-use Rattle.arc.proofs.Filled.{filled-first, filled-more, thirds-first, thirds-more, thirds-between, filled-third}
+use Rattle.arc.specs.Traced.{Traced, Thirds}
+use Rattle.arc.proofs.Traced.{traced-first, traced-more, thirds-first, thirds-more, thirds-between, traced-third}
 use Rattle.arc.proofs.End.{quad-end-at, end-at}
 
 -- ---- is_inside
@@ -59,15 +59,15 @@ module _ (start control end : Point) where
 
 -- ---- inside_quad
 module _ (start control end : Point) where
-  pub quad-first : (xs ys : List Float) → length xs ≡ 33 → length ys ≡ 33 → pointAt xs ys 0 ≡ start → Filled (quadPoint start control end) 0 xs ys
+  pub quad-first : (xs ys : List Float) → length xs ≡ 33 → length ys ≡ 33 → pointAt xs ys 0 ≡ start → Traced (quadPoint start control end) 0 xs ys
   unfolding quadPoint
-  quad-first xs ys X Y e = filled-first (quadPoint start control end) xs ys X Y e
+  quad-first xs ys X Y e = traced-first (quadPoint start control end) xs ys X Y e
 
-  pub quad-more : (n : ℕ) (xs ys : List Float) (p : Point) → n < 24 → Filled (quadPoint start control end) n xs ys
-      → p ≡ quadPoint start control end (n + 1) → Filled (quadPoint start control end) (n + 1) (set xs (n + 1) (p .x)) (set ys (n + 1) (p .y))
-  quad-more n xs ys p h F e = filled-more (quadPoint start control end) n (n + 1) xs ys (p .x) (p .y) refl (omega arith) F e
+  pub quad-more : (n : ℕ) (xs ys : List Float) (p : Point) → n < 24 → Traced (quadPoint start control end) n xs ys
+      → p ≡ quadPoint start control end (n + 1) → Traced (quadPoint start control end) (n + 1) (set xs (n + 1) (p .x)) (set ys (n + 1) (p .y))
+  quad-more n xs ys p h F e = traced-more (quadPoint start control end) n (n + 1) xs ys (p .x) (p .y) refl (omega arith) F e
 
-  module _ (n : ℕ) (xs ys : List Float) (S : Inside (2 ^ 22) start) (C : Inside (2 ^ 22) control) (E : Inside (2 ^ 22) end) (F : Filled (quadPoint start control end) n xs ys) (h : 24 ≤ n) where
+  module _ (n : ℕ) (xs ys : List Float) (S : Inside (2 ^ 22) start) (C : Inside (2 ^ 22) control) (E : Inside (2 ^ 22) end) (F : Traced (quadPoint start control end) n xs ys) (h : 24 ≤ n) where
     quad-within : (k : ℕ) → k ≤ 24 → Inside (2 ^ 29) (quadPoint start control end k)
     quad-within k l = quad-inside 22 (omega arith) start control end S C E k l
 
@@ -102,11 +102,11 @@ module _ (start control end : Point) (n : ℕ) (xs ys : List Float) (F : Thirds 
 
 -- ---- write_between
 module _ (point : ℕ → Point) (xs ys : List Float) where
-  pub between-first : Thirds point 8 xs ys → Filled point (3 * 0) xs ys
-  between-first F = filled-first point xs ys (F .xs-length) (F .ys-length) (F .same 0 (omega arith))
+  pub between-first : Thirds point 8 xs ys → Traced point (3 * 0) xs ys
+  between-first F = traced-first point xs ys (F .xs-length) (F .ys-length) (F .same 0 (omega arith))
 
-  pub between-all : (g : ℕ) → Filled point (3 * g) xs ys → g ≤ 8 → 8 ≤ g → Filled point 24 xs ys
-  between-all g F low high = let all : 3 * g ≡ 24 = omega arith in subst (λ (n : ℕ). Filled point n xs ys) all F
+  pub between-all : (g : ℕ) → Traced point (3 * g) xs ys → g ≤ 8 → 8 ≤ g → Traced point 24 xs ys
+  between-all g F low high = let all : 3 * g ≡ 24 = omega arith in subst (λ (n : ℕ). Traced point n xs ys) all F
 
 -- ---- level_quad
 pub level-first : (start control end : Point) (xs ys : List Float) → length xs ≡ 33 → length ys ≡ 33 → pointAt xs ys 0 ≡ start → Thirds (quadPoint start control end) 0 xs ys
@@ -115,9 +115,9 @@ level-first start control end xs ys X Y e = thirds-first (quadPoint start contro
 
 -- ---- level_cubic
 module _ (start control1 control2 end : Point) where
-  pub cubic-first : (xs ys : List Float) → length xs ≡ 33 → length ys ≡ 33 → pointAt xs ys 0 ≡ start → Filled (cubicPoint start control1 control2 end) 0 xs ys
+  pub cubic-first : (xs ys : List Float) → length xs ≡ 33 → length ys ≡ 33 → pointAt xs ys 0 ≡ start → Traced (cubicPoint start control1 control2 end) 0 xs ys
   unfolding cubicPoint
-  cubic-first xs ys X Y e = filled-first (cubicPoint start control1 control2 end) xs ys X Y e
+  cubic-first xs ys X Y e = traced-first (cubicPoint start control1 control2 end) xs ys X Y e
 
   -- the point of a step, by its coordinates
   cubic-next : (n : ℕ) (x y : Float) → x ≡ cubicAt (start .x) (control1 .x) (control2 .x) (end .x) (stepOf 32 (suc n)) → y ≡ cubicAt (start .y) (control1 .y) (control2 .y) (end .y) (stepOf 32 (suc n))
@@ -125,27 +125,27 @@ module _ (start control1 control2 end : Point) where
   unfolding cubicPoint evalCubic
   cubic-next n x y e f = ap₂ (λ (a b : Float). record { x = a; y = b }) e f
 
-  pub cubic-more : (n : ℕ) (xs ys : List Float) (x y : Float) → n < 31 → Filled (cubicPoint start control1 control2 end) n xs ys
+  pub cubic-more : (n : ℕ) (xs ys : List Float) (x y : Float) → n < 31 → Traced (cubicPoint start control1 control2 end) n xs ys
       → x ≡ cubicAt (start .x) (control1 .x) (control2 .x) (end .x) (stepOf 32 (n + 1)) → y ≡ cubicAt (start .y) (control1 .y) (control2 .y) (end .y) (stepOf 32 (n + 1))
-      → Filled (cubicPoint start control1 control2 end) (n + 1) (set xs (n + 1) x) (set ys (n + 1) y)
+      → Traced (cubicPoint start control1 control2 end) (n + 1) (set xs (n + 1) x) (set ys (n + 1) y)
   cubic-more n xs ys x y h F e f =
       let up = add-one n in
-      filled-more (cubicPoint start control1 control2 end) n (n + 1) xs ys x y refl (omega arith) F
+      traced-more (cubicPoint start control1 control2 end) n (n + 1) xs ys x y refl (omega arith) F
       (cubic-next n x y (e ∙ ap (λ (k : ℕ). cubicAt (start .x) (control1 .x) (control2 .x) (end .x) (stepOf 32 k)) up) (f ∙ ap (λ (k : ℕ). cubicAt (start .y) (control1 .y) (control2 .y) (end .y) (stepOf 32 k)) up)
       ∙ ap (cubicPoint start control1 control2 end) (sym up))
 
   module _ (n : ℕ) (xs ys : List Float) (X : Coordinates (start .x) (control1 .x) (control2 .x) (end .x)) (Y : Coordinates (start .y) (control1 .y) (control2 .y) (end .y))
       (fx : fits binary32 (end .x) ≡ true) (fy : fits binary32 (end .y) ≡ true) (S : Inside (2 ^ 22) start) (C : Inside (2 ^ 22) control1) (D : Inside (2 ^ 22) control2) (E : Inside (2 ^ 22) end)
-      (F : Filled (cubicPoint start control1 control2 end) n xs ys) (low : n ≤ 31) (high : 31 ≤ n) where
+      (F : Traced (cubicPoint start control1 control2 end) n xs ys) (low : n ≤ 31) (high : 31 ≤ n) where
     abbrev xs' : List Float
     xs' = set xs 32 (end .x)
 
     abbrev ys' : List Float
     ys' = set ys 32 (end .y)
 
-    whole : Filled (cubicPoint start control1 control2 end) 32 xs' ys'
+    whole : Traced (cubicPoint start control1 control2 end) 32 xs' ys'
     whole =
-        filled-more (cubicPoint start control1 control2 end) n 32 xs ys (end .x) (end .y) (omega arith) (omega arith) F
+        traced-more (cubicPoint start control1 control2 end) n 32 xs ys (end .x) (end .y) (omega arith) (omega arith) F
         (cubic-next 31 (end .x) (end .y)
         (sym (end-at (start .x) (control1 .x) (control2 .x) (end .x) X (subst T (sym fx) tt)))
         (sym (end-at (start .y) (control1 .y) (control2 .y) (end .y) Y (subst T (sym fy) tt))))
@@ -200,4 +200,4 @@ module _ (start control end : Point) (r : Bool) (level : r ≡ true → AllNear 
     record { x-bounded = quad-near 4 (omega arith); y-bounded = quad-near 5 (omega arith) },
   )
 
-pub ruleset ways = (inside-both, inside-not, passed, falls, quad-point, quad-first, quad-more, quad-xs, quad-ys, quad-is, eighth-more, eighth-end, between-first, thirds-between, filled-third, between-all, level-first, quad-level-x, quad-level-y, quad-level-inside, cubic-first, cubic-more, cubic-xs, cubic-ys, cubic-is, level-x, level-y, level-inside)
+pub ruleset ways = (inside-both, inside-not, passed, falls, quad-point, quad-first, quad-more, quad-xs, quad-ys, quad-is, eighth-more, eighth-end, between-first, thirds-between, traced-third, between-all, level-first, quad-level-x, quad-level-y, quad-level-inside, cubic-first, cubic-more, cubic-xs, cubic-ys, cubic-is, level-x, level-y, level-inside)

@@ -1,2 +1,2 @@
 -- Arrays that hold the points of a curve.
-pub mod Filled
+pub mod Traced

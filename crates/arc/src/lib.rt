@@ -7,7 +7,7 @@ ghost use Prim.Native.Nat.{_^_, _≤_, _<_};
 ghost use Rattle.curve.specs.Curve as spec;
 ghost use Rattle.curve.proofs.Rising.{Inside};
 ghost use Rattle.flatten.specs.Level.{Coordinates, QuadCoordinates};
-ghost use Rattle.arc.specs.Filled.{Filled, Thirds};
+ghost use Rattle.arc.specs.Traced.{Traced, Thirds};
 
 // Whether both coordinates of a point are within 2^22, the limit of command lists.
 fn is_inside(p: Point) -> bool
@@ -67,7 +67,7 @@ fn write_eighths(start: Point, control: Point, end: Point, xs: &mut [f32; 33], y
 // Writes the two points after each eighth.
 fn write_between(start: Point, control: Point, end: Point, xs: &mut [f32; 33], ys: &mut [f32; 33])
     requires { ⌜ Thirds (spec.quadPoint start control end) 8 (now xs) (now ys) ⌝ }
-    ensures { λ r. ⌜ Filled (spec.quadPoint start control end) 24 (now (xs .exit)) (now (ys .exit)) ⌝ }
+    ensures { λ r. ⌜ Traced (spec.quadPoint start control end) 24 (now (xs .exit)) (now (ys .exit)) ⌝ }
 {
     let mut eighth: u16 = 0;
     while eighth < 8 {

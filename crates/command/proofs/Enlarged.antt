@@ -1,4 +1,5 @@
--- Laws of enlarged command lists: the codes stay, the numbers are multiplied, and all are within the limit; and how such lists are built, and outcomes that have them. Assumes nothing.
+-- Laws of enlarged command lists: the codes stay, the numbers are multiplied, and all are within the limit; and how such lists are built, and outcomes
+-- that have them. Assumes nothing.
 use mathlib.Core.Path.{_≡_, refl, sym, ap, ap₂, _∙_, subst}
 use mathlib.Core.Bool.{Bool, true, false, cond}
 use mathlib.Core.List.{List, [], _∷_, _++_, map, map-append}

@@ -1,4 +1,5 @@
--- Laws of outcomes: what passing a list of checks means, that whatever holds of every refusal and of the answer behind the checks holds of the whole, and that no refusal has the
+-- Laws of outcomes: what passing a list of checks means, that whatever holds of every refusal and of the answer behind the checks holds of the whole,
+-- and that no refusal has the
 -- number 0. Assumes nothing.
 use Prim.Native.Nat.{ℕ, _<_}
 use native.Mathlib.Omega.{arith}

@@ -28,14 +28,16 @@ inBuffer n xs = leb (length xs) n
 abbrev pub inBuffers : ℕ → ℕ → List PathCommand → Bool
 inBuffers codes numbers cs = inBuffer codes (codesOf cs) && inBuffer numbers (numbersOf cs)
 
--- The promise about a buffer: the number is the outcome's, the count is that of its list, and the list is the beginning of the buffer; all else in it is as it was.
+-- The promise about a buffer: the number is the outcome's, the count is that of its list, and the list is the beginning of the buffer; all else in it is
+-- as it was.
 pub record Filled {A : Type 0} (o : Outcome (List A)) (number count : ℕ) (buffer buffer' : List A) : Type 0 where
   pub number-is : number ≡ numberOf o
   pub count-is : count ≡ length (listOf o)
   pub content-is : buffer' ≡ onto (listOf o) buffer
 
 -- The promise of a call that draws: one buffer is filled with the codes and one with the numbers.
-pub record FilledBoth (o : Outcome (List PathCommand)) (number codesCount numbersCount : ℕ) (codes codes' : List ℕ) (numbers numbers' : List Float) : Type 0 where
+pub record FilledBoth (o : Outcome (List PathCommand)) (number codesCount numbersCount : ℕ) (codes codes' : List ℕ) (numbers numbers' : List Float)
+    : Type 0 where
   pub codes-filled : Filled (mapped codesOf o) number codesCount codes codes'
   pub numbers-filled : Filled (mapped numbersOf o) number numbersCount numbers numbers'
 

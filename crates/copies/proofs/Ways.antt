@@ -37,7 +37,7 @@ use Rattle.repeater.specs.Repeater.{mostCopies, mostOffset, copyCount, copyTran
 use Rattle.copies.specs.declared.Verdict.{Verdict}
 use Rattle.copies.specs.declared.Verdict.the-variants.{Fault, Sound}
 use Rattle.copies.specs.declared.Written.{Written}
-use Rattle.copies.specs.Outcomes.{verdict, writtenNumber, writtenCount}
+use Rattle.copies.specs.Outcomes.{verdictOf, writtenNumber, writtenCount}
 use Rattle.copies.specs.Order.{rising, falling, orderOf, copyOrder}
 use Rattle.copies.specs.Calls.{repeaterNumbers, hasTooMany, repeaterLimit, repeaterChecks}
 use Rattle.copies.specs.Calls.{orderAnswer, copyNumbers, allFinite, copyAnswer, transformAnswer}
@@ -53,21 +53,21 @@ module _ (r : RepeaterStyle) where
   many-copies h = rw h
 
   module _ (x : Bool) (x-is : x ≡ hasTooMany r) where
-    pub verdict-many : x ≡ true → verdict (Fault TooMany) ≡ checked (repeaterChecks r) (accepted tt)
+    pub verdict-many : x ≡ true → verdictOf (Fault TooMany) ≡ checked (repeaterChecks r) (accepted tt)
     unfolding repeaterChecks
     verdict-many t = rw (sym x-is ∙ t)
 
     module _ (few : x ≡ false) (y : Bool) (y-is : y ≡ allWithin repeaterLimit (repeaterNumbers r)) where
-      pub verdict-beyond : y ≡ false → verdict (Fault OutOfRange) ≡ checked (repeaterChecks r) (accepted tt)
+      pub verdict-beyond : y ≡ false → verdictOf (Fault OutOfRange) ≡ checked (repeaterChecks r) (accepted tt)
       unfolding repeaterChecks
       verdict-beyond t = rw (sym x-is ∙ few, sym y-is ∙ t)
 
       module _ (inside : y ≡ true) where
-        pub verdict-sound : eq (r .rotation) zero32 ≡ true → verdict Sound ≡ checked (repeaterChecks r) (accepted tt)
+        pub verdict-sound : eq (r .rotation) zero32 ≡ true → verdictOf Sound ≡ checked (repeaterChecks r) (accepted tt)
         unfolding repeaterChecks
         verdict-sound t = rw (sym x-is ∙ few, sym y-is ∙ inside, t)
 
-        pub verdict-turned : eq (r .rotation) zero32 ≡ false → verdict (Fault Unsupported) ≡ checked (repeaterChecks r) (accepted tt)
+        pub verdict-turned : eq (r .rotation) zero32 ≡ false → verdictOf (Fault Unsupported) ≡ checked (repeaterChecks r) (accepted tt)
         unfolding repeaterChecks
         verdict-turned t = rw (sym x-is ∙ few, sym y-is ∙ inside, t)
 
@@ -307,12 +307,12 @@ module _ (r : RepeaterStyle) (pass : AllPass (repeaterChecks r)) where
   count-few = few (r .copies) (within-number (r .copies) copies-within) (not-many .0)
 
 -- ---- copy_order, copy_transform
-module _ (r : RepeaterStyle) (v : Verdict) (v-is : verdict v ≡ checked (repeaterChecks r) (accepted tt)) where
+module _ (r : RepeaterStyle) (v : Verdict) (v-is : verdictOf v ≡ checked (repeaterChecks r) (accepted tt)) where
   -- what stands behind the checks is answered where the verdict is no fault
-  behind : {A : Type 0} (w : Verdict) → v ≡ w → (o : Outcome A) → checked (repeaterChecks r) o ≡ andThen (verdict w) (λ _. o)
+  behind : {A : Type 0} (w : Verdict) → v ≡ w → (o : Outcome A) → checked (repeaterChecks r) o ≡ andThen (verdictOf w) (λ _. o)
   behind {A} w e o =
       checks-relate (λ (x : Outcome A) (y : Outcome (Unit {0})). x ≡ andThen y (λ _. o)) (λ f. refl) (repeaterChecks r) o (accepted tt) (λ pass. refl)
-      ∙ ap (λ (y : Outcome (Unit {0})). andThen y (λ _. o)) (sym v-is ∙ ap verdict e)
+      ∙ ap (λ (y : Outcome (Unit {0})). andThen y (λ _. o)) (sym v-is ∙ ap verdictOf e)
 
   module _ (f : Refusal) (e : v ≡ Fault f) where
     pub order-fault : (l : List ℕ) → Filled (fitted (inBuffer (length l)) (orderAnswer r)) (refusalNumber f) 0 l l
@@ -325,7 +325,7 @@ module _ (r : RepeaterStyle) (v : Verdict) (v-is : verdict v ≡ checked (repeat
 
   module _ (e : v ≡ Sound) where
     pub all-pass : AllPass (repeaterChecks r)
-    all-pass = checks-passed (repeaterChecks r) (verdict Sound) tt (behind Sound e (verdict Sound)) .0
+    all-pass = checks-passed (repeaterChecks r) (verdictOf Sound) tt (behind Sound e (verdictOf Sound)) .0
 
     pub order-few : (n : ℕ) → n ≡ copyCount r → n ≤ 4096
     order-few n n-is = rw n-is (count-few r all-pass)

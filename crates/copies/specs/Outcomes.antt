@@ -7,9 +7,9 @@ use Rattle.copies.specs.declared.Written.{Written}
 use Rattle.copies.specs.declared.Written.the-variants.{Refused, Count}
 
 -- what the checks of a repeater come to
-abbrev pub verdict : Verdict → Outcome (Unit {0})
-verdict (Fault r) = refused r
-verdict Sound = accepted tt
+abbrev pub verdictOf : Verdict → Outcome (Unit {0})
+verdictOf (Fault r) = refused r
+verdictOf Sound = accepted tt
 
 -- how many entries a call has written, or why it wrote none; and the number and the count that are told of that
 abbrev pub writtenOf : Written → Outcome ℕ

@@ -15,7 +15,7 @@ ghost use Rattle.command.specs.Outcomes.{accepted, _gives_, checked};
 ghost use Rattle.command.specs.Buffers.{fitted, inBuffer, Filled};
 ghost use Rattle.command.proofs.Outcomes.{AllPass};
 ghost use Rattle.copies.specs.Order.{rising, falling, orderOf};
-ghost use Rattle.copies.specs.Outcomes.{verdict, writtenNumber, writtenCount};
+ghost use Rattle.copies.specs.Outcomes.{verdictOf, writtenNumber, writtenCount};
 ghost use Rattle.copies.specs.Calls as spec;
 
 // A repeater from the eleven numbers that C lends.
@@ -106,7 +106,7 @@ fn is_within(repeater: RepeaterStyle) -> bool
 }
 
 pub fn verdict_of(repeater: RepeaterStyle) -> Verdict
-    ensures { λ r. ⌜ verdict r ≡ checked (spec.repeaterChecks repeater) (accepted tt) ⌝ }
+    ensures { λ r. ⌜ verdictOf r ≡ checked (spec.repeaterChecks repeater) (accepted tt) ⌝ }
 {
     if has_too_many(repeater) {
         return Verdict::Fault(Refusal::TooMany);

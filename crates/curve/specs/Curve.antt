@@ -1,4 +1,5 @@
--- The length of a curve by chords: `eval_quad`, `eval_cubic`, `approx_quad_length` and `approx_cubic_length` of drawing_paths.rs, and `distance` of values.rs. Definitions only.
+-- The length of a curve by chords: `eval_quad`, `eval_cubic`, `approx_quad_length` and `approx_cubic_length` of drawing_paths.rs, and `distance` of
+-- values.rs. Definitions only.
 use Prim.Native.Nat.{ℕ, zero, suc}
 use lib.IntN.{pos}
 use lib.Ieee.{Float, div, ofInt, ofBits, binary32}
@@ -71,7 +72,7 @@ unfoldable pub chords : (ℕ → Point) → ℕ → Float
 chords point zero = zero32
 chords point (suc n) = chords point n ⊕ distance (point n) (point (suc n))
 
--- the running length inside a curve
+-- The length of the first n chords. Inside a curve the running length is the length before the curve plus this.
 unfoldable pub quadLengthAfter : ℕ → Point → Point → Point → Float
 quadLengthAfter n start control end = chords (quadPoint start control end) n
 

@@ -12,7 +12,7 @@ use Rattle.ieee.specs.Whole.{roundAway}
 use Rattle.command.specs.declared.Refusal.the-variants.{OutOfRange, Unlisted, TooShort, OutOfBounds}
 use Rattle.command.specs.Outcomes.{Outcome, refused, accepted, mapped, valueOr}
 use Rattle.reader.specs.Read.{sizeOfCode, commandAt, commandChecks, readCommand}
-use Rattle.judge.specs.Lists.{before, readList, judgeList}
+use Rattle.judge.specs.Lists.{inFront, readList, judgeList}
 use Rattle.curve.specs.Curve.{distance}
 use Rattle.measure.specs.Length.{startPen, added, moveTo, arrive, lineTo, closing, close, step, steps, lengthAfter, pathLength}
 use Rattle.length.specs.Lists.{measureList}
@@ -83,7 +83,7 @@ LineLong = trimLengths (trim (f 0) (f 0) (f 0) 1) (0 ∷ 1 ∷ []) (f 0 ∷ f 0 
 
 cut : PartCut × TwoCut × WholeCut × WholeMarked × NothingCut × NothingCounted × MinusZeroCut × LineShort × LineLong
 unfolding isFullTrimSegments lengthsAnswer trimLengths isFiniteTrim isTrimMode cutMeasured partOf max normalizedTrimSegments offsetOf placedAt snapped near
-    nearBoth isWhole rangesBetween lower upper remEuclid roundAway clamp measureList judgeList readList before readCommand commandChecks sizeOfCode commandAt
+    nearBoth isWhole rangesBetween lower upper remEuclid roundAway clamp measureList judgeList readList inFront readCommand commandChecks sizeOfCode commandAt
     allWithin le pathLength lengthAfter steps step startPen moveTo lineTo arrive added close closing distance hypotOf rootOf isqrt root add sub mul div rem lt
     neg sum round units size span climb odd ofBits ofFields isNan
 cut = (refl, refl, refl, refl, refl, refl, refl, refl, refl)
@@ -105,7 +105,7 @@ module _ (codes : List ℕ) (numbers : List Float) where
 
 -- a number is left over, so that the length 0 of the list is not looked at
 list-next : trimLengths (trim (f 0) (f 0) (f 0) 1) (3 ∷ []) (nan ∷ []) ≡ refused OutOfBounds
-unfolding trimLengths isFiniteTrim isTrimMode cutMeasured measureList judgeList readList before readCommand commandChecks sizeOfCode allWithin ofBits ofFields
+unfolding trimLengths isFiniteTrim isTrimMode cutMeasured measureList judgeList readList inFront readCommand commandChecks sizeOfCode allWithin ofBits ofFields
 list-next = refl
 
 empty-last : trimLengths (trim (f 0) (f 0) (f 0) 1) [] [] ≡ refused TooShort

@@ -1,4 +1,5 @@
--- A drawing of enlarged items is the enlarged drawing: the refusals are the same, and every number of the commands is multiplied. What is not read may differ freely. Assumes nothing.
+-- A drawing of enlarged items is the enlarged drawing: the refusals are the same, and every number of the commands is multiplied. What is not read may
+-- differ freely. Assumes nothing.
 use mathlib.Core.Path.{_≡_, refl, sym, subst}
 use mathlib.Core.Bool.{Bool, true, false, cond}
 use mathlib.Core.List.{List, [], _∷_}

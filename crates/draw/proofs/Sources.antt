@@ -1,4 +1,5 @@
--- What a source or a vertex list that is drawn has met: each check, so that its numbers are there and within the limit, and its commands are the shape's, which are few.
+-- What a source or a vertex list that is drawn has met: each check, so that its numbers are there and within the limit, and its commands are the
+-- shape's, which are few.
 -- Assumes nothing.
 use mathlib.Core.Path.{_≡_, refl, sym, ap}
 use mathlib.Core.Bool.{Bool, true, false, cond, _&&_}

@@ -32,7 +32,8 @@ isHeldBack row = not (isPath row || isRect row)
 abbrev pub hasNoVertices : ItemRow → Bool
 hasNoVertices row = isPath row && eqb (row .count) 0
 
--- the shape of a row whose numbers stand at the start of v: making one may itself refuse, after all other checks
+-- The shape of a row whose numbers stand at the start of v. Making one may itself refuse, after all other checks; none does yet, since the kinds without
+-- a shape are held back before.
 unfoldable pub itemShape : ItemRow → List Float → Outcome Shape
 itemShape row v =
     cond (isPath row) (accepted (Path (row .mark) (row .count)))

@@ -165,27 +165,27 @@ larger-drawn = refl
 length-12 : measureList (lent .codes) (plate .numbers) ≡ accepted twelve
 unfolding sub mul ofBits le hypotOf isqrt allWithin
     distance measure.startPen measure.moveTo measure.lineTo measure.close measure.step measure.steps measure.lengthAfter measure.pathLength
-    reader.sizeOfCode reader.commandAt reader.commandChecks reader.readCommand judge.before judge.readList judge.judgeList measureList
+    reader.sizeOfCode reader.commandAt reader.commandChecks reader.readCommand judge.inFront judge.readList judge.judgeList measureList
 length-12 = refl
 
 length-48 : measureList (lent .codes) (larger .numbers) ≡ accepted (ofBits binary32 0x4240_0000)
 unfolding enlarge sub mul ofBits le hypotOf isqrt allWithin
     distance measure.startPen measure.moveTo measure.lineTo measure.close measure.step measure.steps measure.lengthAfter measure.pathLength
-    reader.sizeOfCode reader.commandAt reader.commandChecks reader.readCommand judge.before judge.readList judge.judgeList measureList
+    reader.sizeOfCode reader.commandAt reader.commandChecks reader.readCommand judge.inFront judge.readList judge.judgeList measureList
 length-48 = refl
 
 -- the middle half of it is shown: 3, 6, 3, and 12, 24, 12
 cuts-12 : listOf (mapped toldNumbers (lengthsAnswer (lent .trim) (lent .codes) (plate .numbers))) ≡ three ∷ ofBits binary32 0x40c0_0000 ∷ three ∷ []
 unfolding sub mul div le ofInt ofBits min max clamp fma remEuclid hypotOf isqrt roundAway allWithin
     distance measure.startPen measure.moveTo measure.lineTo measure.close measure.step measure.steps measure.lengthAfter measure.pathLength
-    reader.sizeOfCode reader.commandAt reader.commandChecks reader.readCommand judge.before judge.readList judge.judgeList measureList
+    reader.sizeOfCode reader.commandAt reader.commandChecks reader.readCommand judge.inFront judge.readList judge.judgeList measureList
     offsetOf placedAt snapped near nearBoth isWhole rangesBetween lower upper normalizedTrimSegments isFiniteTrim isTrimMode cutMeasured trimLengths lengthsAnswer partOf
 cuts-12 = refl
 
 cuts-48 : listOf (mapped toldNumbers (lengthsAnswer (lent .trim) (lent .codes) (larger .numbers))) ≡ twelve ∷ ofBits binary32 0x41c0_0000 ∷ twelve ∷ []
 unfolding enlarge sub mul div le ofInt ofBits min max clamp fma remEuclid hypotOf isqrt roundAway allWithin
     distance measure.startPen measure.moveTo measure.lineTo measure.close measure.step measure.steps measure.lengthAfter measure.pathLength
-    reader.sizeOfCode reader.commandAt reader.commandChecks reader.readCommand judge.before judge.readList judge.judgeList measureList
+    reader.sizeOfCode reader.commandAt reader.commandChecks reader.readCommand judge.inFront judge.readList judge.judgeList measureList
     offsetOf placedAt snapped near nearBoth isWhole rangesBetween lower upper normalizedTrimSegments isFiniteTrim isTrimMode cutMeasured trimLengths lengthsAnswer partOf
 cuts-48 = refl
 

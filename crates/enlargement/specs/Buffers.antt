@@ -1,5 +1,6 @@
--- What it is that the calls fill the caller's buffers alike for a plate and the same plate enlarged: the claim with the last check, 11, in it. Definitions only.
--- Trays are large enough, in document 01's words, if neither plate gets 11; then the number, the codes and both counts are the same, and the numbers are multiplied.
+-- What it is that the calls fill the caller's buffers alike for a plate and the same plate enlarged: the claim with the last check, 11, in it.
+-- Definitions only. Trays are large enough, in document 01's words, if neither plate gets 11; then the number, the codes and both counts are the same,
+-- and the numbers are multiplied.
 -- Where both plates are given buffers of one size, nothing is asked of it: 11 is the same too.
 use Prim.Native.Nat.{ℕ}
 use mathlib.Core.Path.{_≡_}

@@ -1,4 +1,5 @@
--- The third demand of the mission, whole: every call answers a plate on the grid and the same plate enlarged by 2, 4, 8, 16, 32 or 64 alike. `AnsweredAlike` has a field for each call:
+-- The third demand of the mission, whole: every call answers a plate on the grid and the same plate enlarged by 2, 4, 8, 16, 32 or 64 alike.
+-- `AnsweredAlike` has a field for each call:
 --
 --   drawing                     the same refusal, or the same codes and every coordinate multiplied
 --   tray estimate               the same
@@ -7,14 +8,16 @@
 --   length                      the same refusal, or the length multiplied
 --   one command's numbers       the same refusal, place and count; the numbers multiplied
 --   ranges                      the same
---   cut lengths                 the same refusal, or the same ranges and every cut length multiplied. Where the smaller path is too short, the larger is too short or accepted.
+--   cut lengths                 the same refusal, or the same ranges and every cut length multiplied.
+--                               Where the smaller path is too short, the larger is too short or accepted.
 --   copy order                  the same
 --   copy transform              the same refusal, or the same a, b, c, d and opacity, and the shift e, f multiplied
 --
--- 'Multiplied' is `scale k`: the float whose value is exactly 2 ^ k times as large, a zero keeping its sign (crates/ieee/specs/Grid.antt); `products` says that it is the f32 product.
--- What is asked of the plates is `PlateOnGrid` and `Enlarged` (specs/Plates.antt). The answers stand here without the last check, 11, which asks the size of the caller's buffers;
--- `FilledAlike` (specs/Buffers.antt) says the same of what the calls put into them. Each exported function promises (crates/jengafir) that what it hands back is what these definitions
--- say, so the claim is one about the definitions of the second demand. The proof is proofs/Claim.antt, and proofs/Example.antt is a plate that meets the conditions. Definitions only.
+-- 'Multiplied' is `scale k`: the float whose value is exactly 2 ^ k times as large, a zero keeping its sign (crates/ieee/specs/Grid.antt); `products`
+-- says that it is the f32 product. What is asked of the plates is `PlateOnGrid` and `Enlarged` (specs/Plates.antt). The answers stand here without the
+-- last check, 11, which asks the size of the caller's buffers; `FilledAlike` (specs/Buffers.antt) says the same of what the calls put into them. Each
+-- exported function promises (crates/jengafir) that what it hands back is what these definitions say, so the claim is one about the definitions of the
+-- second demand. The proof is proofs/Claim.antt, and proofs/Example.antt is a plate that meets the conditions. Definitions only.
 use Prim.Native.Nat.{ℕ, _≤_}
 use mathlib.Core.Path.{_≡_}
 use mathlib.Core.List.{List, [], _∷_, _++_, map}
@@ -72,6 +75,6 @@ pub record AnsweredAlike (k : ℕ) (p p' : Plate) : Type 0 where
   pub copy-transform : transformAnswer (p' .repeater) (p' .lent .copy) ≡ movedAnswer k (transformAnswer (p .repeater) (p .lent .copy))
   pub products : map (times k) (multipliedNumbers p) ≡ map (scale k) (multipliedNumbers p)
 
--- the claim: for each exponent up to 6, that is for the factors 2, 4, 8, 16, 32 and 64
+-- the claim: for each exponent up to 6, that is for the factors 2, 4, 8, 16, 32 and 64, and for 1
 abbrev pub EnlargedAlike : Type 0
 EnlargedAlike = (k : ℕ) → k ≤ 6 → (p p' : Plate) → PlateOnGrid p → Enlarged k p p' → AnsweredAlike k p p' × FilledAlike k p p'

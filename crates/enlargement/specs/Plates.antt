@@ -77,8 +77,9 @@ pub data Made : List PathCommand → Type 0 where
   of-row : (row : List ℕ) (items : List Float) (cs : List PathCommand) → GridAt (OfRow (itemRow row 0)) items → drawItem row items ≡ accepted cs → Made cs
   of-merge : (rows : List ℕ) (n : ℕ) (items : List Float) (cs : List PathCommand) → GridAt (OfMerge rows n) items → drawMerge rows n items ≡ accepted cs → Made cs
 
--- The conditions of the third demand: every number that is read as a coordinate is on the grid, the command list is made of such, and the repeater scales by 100.
--- That the repeater has no rotation is not asked: one that has is refused alike. Nothing is asked of numbers that are not read, nor of all else.
+-- The conditions of the third demand: every number that is read as a coordinate is on the grid, the command list is made of such, and the repeater
+-- scales by 100. That the repeater has no rotation is not asked: one that has is refused alike. Nothing is asked of numbers that are not read, nor of
+-- all else.
 pub record PlateOnGrid (p : Plate) : Type 0 where
   pub vertices : GridAt (OfVertices (p .lent .count)) (p .vertices)
   pub row : GridAt (OfRow (itemRow (p .lent .row) 0)) (p .items)

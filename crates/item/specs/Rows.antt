@@ -47,7 +47,7 @@ isVisible row = eqb (row .hidden) 0
 
 -- ---- the rules
 
--- the marks that a kind may bear: a closed flag for sh, a mode for mm, else 0
+-- the marks that a kind may bear: a closed flag for sh, a mode for mm, where 0 is also that of none, else 0
 unfoldable pub isMark : ℕ → ℕ → Bool
 isMark kind mark =
     cond (eqb kind 1) (leb mark 1)

@@ -117,11 +117,7 @@ pub extern "C" fn jengafir_tray_estimate(
 ) -> u32
     ensures { λ r. ⌜ Counted (trayEstimate count) r (now («codes_needed» .exit)) (now («numbers_needed» .exit)) ⌝ }
 {
-    command::tell(
-        estimate::tray_estimate(count),
-        codes_needed,
-        numbers_needed,
-    )
+    command::tell(estimate::tray_estimate(count), codes_needed, numbers_needed)
 }
 
 #[no_mangle]

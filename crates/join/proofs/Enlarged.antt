@@ -1,4 +1,5 @@
--- A merge of enlarged items is the enlarged merge: the refusals are the same, and every number of the commands is multiplied. The numbers of rows that are not joined may differ
+-- A merge of enlarged items is the enlarged merge: the refusals are the same, and every number of the commands is multiplied. The numbers of rows that
+-- are not joined may differ
 -- freely. Assumes nothing.
 use mathlib.Core.Path.{_≡_, refl}
 use mathlib.Core.List.{List, [], _∷_, map}

@@ -19,26 +19,26 @@ use Rattle.command.proofs.Outcomes.{refused-accepted}
 use Rattle.command.proofs.Passes.{codes-length}
 use Rattle.reader.specs.Read.{sizeOfCode, readCommand}
 use Rattle.reader.proofs.Commands.{size-of, command-read, accepted-read, code-at, coordinates-at}
-use Rattle.judge.specs.Lists.{before, readList, judgeList}
+use Rattle.judge.specs.Lists.{inFront, readList, judgeList}
 use Rattle.judge.proofs.Walk.{left-over}
 use Rattle.judge.proofs.Ways.{front}
 
 -- one command in front
 front-read : (c : PathCommand) (codes : List ℕ) (v : List Float) → allWithin commandLimit (coordinatesOf c) ≡ true
-    → readList (codeOf c ∷ codes) (coordinatesOf c ++ v) ≡ before (readList codes v) c
+    → readList (codeOf c ∷ codes) (coordinatesOf c ++ v) ≡ inFront (readList codes v) c
 unfolding readList
 front-read c codes v h =
     let w : List Float = coordinatesOf c ++ v in
     let back : drop (sizeOfCode (codeOf c)) w ≡ v = ap (λ (n : ℕ). drop n w) (size-of c) ∙ drop-append-seam (coordinatesOf c) v in
-    ap (λ (o : Outcome PathCommand). andThen o (before (readList codes (drop (sizeOfCode (codeOf c)) w)))) (command-read c v h)
-    ∙ ap (λ (u : List Float). before (readList codes u) c) back
+    ap (λ (o : Outcome PathCommand). andThen o (inFront (readList codes (drop (sizeOfCode (codeOf c)) w)))) (command-read c v h)
+    ∙ ap (λ (u : List Float). inFront (readList codes u) c) back
 
 pub commands-read : (cs : List PathCommand) → allWithin commandLimit (numbersOf cs) ≡ true → readList (codesOf cs) (numbersOf cs) ≡ accepted cs
 commands-read [] h = unfold readList in refl
 commands-read (c ∷ cs) h =
     let s = and-eq-true-iff (allWithin commandLimit (coordinatesOf c)) (allWithin commandLimit (numbersOf cs)) .0
     (sym (within-append commandLimit (coordinatesOf c) (numbersOf cs)) ∙ h) in
-    front-read c (codesOf cs) (numbersOf cs) (s .0) ∙ ap (λ (o : Outcome (List PathCommand)). before o c) (commands-read cs (s .1)) ∙ unfold before in refl
+    front-read c (codesOf cs) (numbersOf cs) (s .0) ∙ ap (λ (o : Outcome (List PathCommand)). inFront o c) (commands-read cs (s .1)) ∙ unfold inFront in refl
 
 -- commands that are few enough and within the limit are accepted as themselves
 pub list-judged : (cs : List PathCommand) → length cs ≤ 262144 → allWithin commandLimit (numbersOf cs) ≡ true → judgeList (codesOf cs) (numbersOf cs) ≡ accepted cs

@@ -1,4 +1,5 @@
--- A walk down a command list, a command at a time, that carries a state: what is left, folded from the state as it is, gives what the whole gives from the first state.
+-- A walk down a command list, a command at a time, that carries a state: what is left, folded from the state as it is, gives what the whole gives from
+-- the first state.
 -- Whoever reads a list to its end stands on these laws, with a fold of its own. Assumes nothing.
 use mathlib.Core.Path.{_≡_, refl, sym, ap, _∙_}
 use mathlib.Core.List.{List, [], _∷_}
@@ -17,7 +18,7 @@ use Rattle.reader.specs.declared.Read.{Read}
 use Rattle.reader.specs.declared.Read.the-variants.{Refused, Command}
 use Rattle.reader.specs.Read.{sizeOfCode, readCommand, readOf, readFrom}
 use Rattle.reader.proofs.Commands.{refused-from, accepted-from, accepted-read}
-use Rattle.judge.specs.Lists.{before, readList, judgeList}
+use Rattle.judge.specs.Lists.{inFront, readList, judgeList}
 
 -- after the last command
 pub left-over : (u : List Float) → (length u ≡ 0 → ⊥) → readList [] u ≡ refused OutOfBounds
@@ -56,14 +57,14 @@ module _ {S B : Type 0} (fold : S → List PathCommand → B) (codes : List ℕ)
       abbrev rest : Outcome (List PathCommand)
       rest = readList (drop (suc i) codes) (drop (sizeOfCode c) v)
 
-      here : mapped (fold now) (andThen (readCommand c v) (before rest)) ≡ mapped (fold first) (readList codes numbers)
+      here : mapped (fold now) (andThen (readCommand c v) (inFront rest)) ≡ mapped (fold first) (readList codes numbers)
       unfolding readList
       here = ap (λ (l : List ℕ). mapped (fold now) (readList l v)) (sym (drop-cons codes i 0 h)) ∙ left .whole
 
       pub walk-refused : length codes ≤ 262144 → (r : Refusal) → read ≡ Refused r → refused r ≡ mapped (fold first) (judgeList codes numbers)
       walk-refused few r e =
           let off : readCommand c v ≡ refused r = refused-from c numbers place r (sym (ap readOf e) ∙ read-is) in
-          sym (ap (λ (o : Outcome PathCommand). mapped (fold now) (andThen o (before rest))) off) ∙ here ∙ list-few few
+          sym (ap (λ (o : Outcome PathCommand). mapped (fold now) (andThen o (inFront rest))) off) ∙ here ∙ list-few few
 
       module _ (p : PathCommand) (next : ℕ) (e : read ≡ Command p next) where
         on : (readCommand c v ≡ accepted p) × (next ≡ place + sizeOfCode c)
@@ -76,12 +77,12 @@ module _ {S B : Type 0} (fold : S → List PathCommand → B) (codes : List ℕ)
             rw (j-is, on .1, add-one)
             (record {
               inside = let l = A .inside in omega (arith, left .inside, length-drop place numbers);
-              whole = rw (← drop-drop (sizeOfCode c) place numbers) (sym (one rest) ∙ ap (λ (o : Outcome PathCommand). mapped (fold now) (andThen o (before rest))) (sym (on .0)) ∙ here);
+              whole = rw (← drop-drop (sizeOfCode c) place numbers) (sym (one rest) ∙ ap (λ (o : Outcome PathCommand). mapped (fold now) (andThen o (inFront rest))) (sym (on .0)) ∙ here);
             })
           where
-            one : (o : Outcome (List PathCommand)) → mapped (fold now) (before o p) ≡ mapped (fold then) o
-            one (refused r) = unfold before in refl
-            one (accepted cs) = unfold before in (ap accepted (sym (on-it cs)))
+            one : (o : Outcome (List PathCommand)) → mapped (fold now) (inFront o p) ≡ mapped (fold then) o
+            one (refused r) = unfold inFront in refl
+            one (accepted cs) = unfold inFront in (ap accepted (sym (on-it cs)))
 
     module _ (few : length codes ≤ 262144) (h : length codes ≤ i) where
       ended : mapped (fold now) (readList [] v) ≡ mapped (fold first) (judgeList codes numbers)

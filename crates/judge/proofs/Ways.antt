@@ -24,7 +24,7 @@ use Rattle.reader.specs.Read.{sizeOfCode, readCommand, readOf, readFrom}
 use Rattle.reader.proofs.Commands.{size-most, Accepted, accepted-read}
 use Rattle.judge.specs.declared.Judged.{Judged}
 use Rattle.judge.specs.declared.Judged.the-variants.{Fault, Sound}
-use Rattle.judge.specs.Lists.{before, readList, judgeList, judgedOf, verdict, placeOf, askedFor, judgeCommand, findCommand, commandFault, commandPart}
+use Rattle.judge.specs.Lists.{inFront, readList, judgeList, judgedOf, verdict, placeOf, askedFor, judgeCommand, findCommand, commandFault, commandPart}
 use Rattle.judge.proofs.Walk.{Left, walk-start, list-many, walk-refused, walk-next, walk-over, walk-end}
 
 -- ---- judge: a walk with nothing to carry
@@ -132,10 +132,10 @@ pub record Front (c : ℕ) (cs : List ℕ) (v : List Float) (ps : List PathComma
   pub is : ps ≡ command ∷ rest
 
 pub front : (c : ℕ) (cs : List ℕ) (v : List Float) (ps : List PathCommand) → readList (c ∷ cs) v ≡ accepted ps → Front c cs v ps
-unfolding readList before
+unfolding readList inFront
 front c cs v ps e = go (readCommand c v) refl (readList cs (drop (sizeOfCode c) v)) refl e
   where
-    go : (o : Outcome PathCommand) → readCommand c v ≡ o → (q : Outcome (List PathCommand)) → readList cs (drop (sizeOfCode c) v) ≡ q → andThen o (before q) ≡ accepted ps → Front c cs v ps
+    go : (o : Outcome PathCommand) → readCommand c v ≡ o → (q : Outcome (List PathCommand)) → readList cs (drop (sizeOfCode c) v) ≡ q → andThen o (inFront q) ≡ accepted ps → Front c cs v ps
     go (refused r) p q s e = refused-accepted r ps e
     go (accepted x) p (refused r) s e = refused-accepted r ps e
     go (accepted x) p (accepted xs) s e = record { command = x; rest = xs; read-is = p; rest-is = s; is = sym (ap listOf e) }

@@ -14,14 +14,14 @@ use Rattle.judge.specs.declared.Judged.the-variants.{Fault, Sound}
 
 -- ---- the list
 
--- one command more before those that are read
-unfoldable pub before : Outcome (List PathCommand) → PathCommand → Outcome (List PathCommand)
-before rest c = mapped (λ (cs : List PathCommand). c ∷ cs) rest
+-- one command more in front of those that are read
+unfoldable pub inFront : Outcome (List PathCommand) → PathCommand → Outcome (List PathCommand)
+inFront rest c = mapped (λ (cs : List PathCommand). c ∷ cs) rest
 
 -- the first faulty command in list order counts; numbers left over after the last command come last, as 12
 unfoldable pub readList : List ℕ → List Float → Outcome (List PathCommand)
 readList [] v = checked ((not (eqb (length v) 0) gives OutOfBounds) ∷ []) (accepted [])
-readList (c ∷ cs) v = andThen (readCommand c v) (before (readList cs (drop (sizeOfCode c) v)))
+readList (c ∷ cs) v = andThen (readCommand c v) (inFront (readList cs (drop (sizeOfCode c) v)))
 
 -- the length limit is first: over 262,144 commands is 2
 unfoldable pub judgeList : List ℕ → List Float → Outcome (List PathCommand)

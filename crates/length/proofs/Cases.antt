@@ -8,7 +8,7 @@ use Rattle.ieee.specs.Root.{hypotOf, rootOf, isqrt, root}
 use Rattle.command.specs.declared.Refusal.the-variants.{OutOfRange, Unlisted, OutOfBounds}
 use Rattle.command.specs.Outcomes.{refused, accepted}
 use Rattle.reader.specs.Read.{sizeOfCode, commandAt, commandChecks, readCommand}
-use Rattle.judge.specs.Lists.{before, readList, judgeList}
+use Rattle.judge.specs.Lists.{inFront, readList, judgeList}
 use Rattle.curve.specs.Curve.{distance}
 use Rattle.measure.specs.Length.{startPen, added, moveTo, arrive, lineTo, closing, close, step, steps, lengthAfter, pathLength}
 use Rattle.length.specs.Lists.{measureList}
@@ -25,7 +25,7 @@ nothing = refl
 -- the rectangle 3 by 4 around 0: 14
 rectangle : measureList (0 ∷ 1 ∷ 1 ∷ 1 ∷ 3 ∷ []) (f 0xbfc0_0000 ∷ f 0xc000_0000 ∷ f 0x3fc0_0000 ∷ f 0xc000_0000 ∷ f 0x3fc0_0000 ∷ f 0x4000_0000 ∷ f 0xbfc0_0000 ∷ f 0x4000_0000 ∷ [])
     ≡ accepted (f 0x4160_0000)
-unfolding measureList judgeList readList before readCommand commandChecks sizeOfCode commandAt allWithin le pathLength lengthAfter steps step startPen moveTo lineTo arrive added close closing distance hypotOf rootOf isqrt root add sub neg sum round units size span climb odd ofBits ofFields
+unfolding measureList judgeList readList inFront readCommand commandChecks sizeOfCode commandAt allWithin le pathLength lengthAfter steps step startPen moveTo lineTo arrive added close closing distance hypotOf rootOf isqrt root add sub neg sum round units size span climb odd ofBits ofFields
 rectangle = refl
 
 -- a code that is not listed comes before its missing numbers, and these before a number that is none; left-over numbers come last
@@ -42,5 +42,5 @@ unfolding measureList judgeList readList readCommand commandChecks sizeOfCode al
 beyond = refl
 
 over : measureList (3 ∷ []) (nan ∷ []) ≡ refused OutOfBounds
-unfolding measureList judgeList readList before readCommand commandChecks sizeOfCode commandAt allWithin
+unfolding measureList judgeList readList inFront readCommand commandChecks sizeOfCode commandAt allWithin
 over = refl

@@ -18,7 +18,7 @@ use Rattle.draw.specs.Items.{drawItem}
 use Rattle.curve.specs.Curve.{distance}
 use Rattle.measure.specs.Length as measure
 use Rattle.reader.specs.Read.{sizeOfCode, commandAt, commandChecks, readCommand}
-use Rattle.judge.specs.Lists.{before, readList, judgeList}
+use Rattle.judge.specs.Lists.{inFront, readList, judgeList}
 use Rattle.length.specs.Lists.{measureList}
 use Rattle.trim.specs.Trim.{offsetOf, placedAt, snapped, near, nearBoth, isWhole, rangesBetween, lower, upper, normalizedTrimSegments, isFullTrimSegments}
 use Rattle.cut.specs.Calls.{isFiniteTrim, trimRanges}
@@ -35,7 +35,7 @@ pub all-answered : map (λ p. answer (p .input)) starred ≡ map (λ p. p .outpu
 unfolding sub mul div le ofInt ofBits min max clamp fma remEuclid hypotOf isqrt roundAway
     bezierSegment rectBounds cornerRadius rectPath drawPath drawItem
     distance measure.startPen measure.moveTo measure.lineTo measure.close measure.step measure.steps measure.lengthAfter measure.pathLength
-    sizeOfCode commandAt commandChecks readCommand before readList judgeList measureList
+    sizeOfCode commandAt commandChecks readCommand inFront readList judgeList measureList
     offsetOf placedAt snapped near nearBoth isWhole rangesBetween lower upper normalizedTrimSegments isFullTrimSegments isFiniteTrim trimRanges rangesAnswer
     concat preTranslate preScale repeater.copyCount repeater.stepScale repeater.stepShift repeater.stepMatrix repeater.stepTransform
     repeater.steps repeater.iterationTransform repeater.copyTransform repeater.opacityOf repeater.copyOpacity

@@ -13,8 +13,8 @@ use Rattle.trim.specs.declared.Ranges.{Ranges}
 use Rattle.cut.specs.Answers.{rangesAnswer, toldNumbers, toldCount, toldMark}
 use Rattle.copies.specs.Calls.{repeaterOf, orderAnswer, transformAnswer}
 
--- A trim by start, end and offset; a rectangle by centre, size and roundness, drawn and measured; a vertex list by closed flag, numbers and count, drawn and measured;
--- the order of a repeater's copies, and one copy. A repeater is given by its eleven numbers and its mode.
+-- A trim by start, end and offset; a rectangle by centre, size and roundness, drawn and measured; a vertex list by closed flag, numbers and count, drawn
+-- and measured; the order of a repeater's copies, and one copy. A repeater is given by its eleven numbers and its mode.
 pub data Input : Type 0 where
   trim : Float → Float → Float → Input
   rectangle : Float → Float → Float → Float → Float → Input
@@ -46,7 +46,8 @@ countDrawn cs = mapped (commands (length (codesOf cs))) (measureDrawn cs)
 abbrev pub rectangleRow : List ℕ
 rectangleRow = 2 ∷ 0 ∷ 0 ∷ 0 ∷ 0 ∷ 0 ∷ []
 
--- What the calls answer, into buffers that are large enough: `jengafir_trim_ranges`; `jengafir_draw_item` and `jengafir_length`; `jengafir_draw_path` and `jengafir_length`;
+-- What the calls answer, into buffers that are large enough: `jengafir_trim_ranges`; `jengafir_draw_item` and `jengafir_length`; `jengafir_draw_path`
+-- and `jengafir_length`;
 -- `jengafir_copy_order`; `jengafir_copy_transform`.
 abbrev pub answer : Input → Outcome Output
 answer (trim start end offset) = mapped rangesOutput (rangesAnswer (record { start = start; end = end; «offset_degrees» = offset; mode = 1 }))

@@ -3,12 +3,12 @@ use Rattle.arc.proofs.Ways.{ways}
 use borrow.Author.Needs.{needs}
 use Prim.Native.Nat.{_-_, _≤_}
 use Rattle.curve.specs.Curve.{quadPoint}
-use Rattle.arc.specs.Filled.{Filled}
+use Rattle.arc.specs.Traced.{Traced}
 use Rattle.arc.proofs.inside_quad.Statement.{statement}
 use Rattle.arc.proofs.inside_quad.Tie as tie
 
 abbrev Inv-loop : tie.InvT-loop
-Inv-loop start control end xs₀ ys₀ step₀ xs ys step = Filled (quadPoint start control end) step xs ys × (step ≤ 24)
+Inv-loop start control end xs₀ ys₀ step₀ xs ys step = Traced (quadPoint start control end) step xs ys × (step ≤ 24)
 
 abbrev μ-loop : tie.MeasureT-loop
 μ-loop start control end xs₀ ys₀ step₀ xs ys step = 24 - step

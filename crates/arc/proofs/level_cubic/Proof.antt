@@ -3,12 +3,12 @@ use Rattle.arc.proofs.Ways.{ways}
 use borrow.Author.Needs.{needs}
 use Prim.Native.Nat.{_-_, _≤_}
 use Rattle.curve.specs.Curve.{cubicPoint}
-use Rattle.arc.specs.Filled.{Filled}
+use Rattle.arc.specs.Traced.{Traced}
 use Rattle.arc.proofs.level_cubic.Statement.{statement}
 use Rattle.arc.proofs.level_cubic.Tie as tie
 
 abbrev Inv-loop : tie.InvT-loop
-Inv-loop start control1 control2 end xs₀ ys₀ step₀ xs ys step = Filled (cubicPoint start control1 control2 end) step xs ys × (step ≤ 31)
+Inv-loop start control1 control2 end xs₀ ys₀ step₀ xs ys step = Traced (cubicPoint start control1 control2 end) step xs ys × (step ≤ 31)
 
 abbrev μ-loop : tie.MeasureT-loop
 μ-loop start control1 control2 end xs₀ ys₀ step₀ xs ys step = 31 - step

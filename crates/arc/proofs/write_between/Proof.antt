@@ -3,12 +3,12 @@ use Rattle.arc.proofs.Ways.{ways}
 use borrow.Author.Needs.{needs}
 use Prim.Native.Nat.{_-_, _*_, _≤_}
 use Rattle.curve.specs.Curve.{quadPoint}
-use Rattle.arc.specs.Filled.{Filled, Thirds}
+use Rattle.arc.specs.Traced.{Traced, Thirds}
 use Rattle.arc.proofs.write_between.Statement.{statement}
 use Rattle.arc.proofs.write_between.Tie as tie
 
 abbrev Inv-loop : tie.InvT-loop
-Inv-loop start control end xs₀ ys₀ eighth₀ xs ys eighth = Thirds (quadPoint start control end) 8 xs ys × Filled (quadPoint start control end) (3 * eighth) xs ys × (eighth ≤ 8)
+Inv-loop start control end xs₀ ys₀ eighth₀ xs ys eighth = Thirds (quadPoint start control end) 8 xs ys × Traced (quadPoint start control end) (3 * eighth) xs ys × (eighth ≤ 8)
 
 abbrev μ-loop : tie.MeasureT-loop
 μ-loop start control end xs₀ ys₀ eighth₀ xs ys eighth = 8 - eighth

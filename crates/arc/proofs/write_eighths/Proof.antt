@@ -3,7 +3,7 @@ use Rattle.arc.proofs.Ways.{ways}
 use borrow.Author.Needs.{needs}
 use Prim.Native.Nat.{_-_, _≤_}
 use Rattle.curve.specs.Curve.{quadPoint}
-use Rattle.arc.specs.Filled.{Thirds}
+use Rattle.arc.specs.Traced.{Thirds}
 use Rattle.arc.proofs.write_eighths.Statement.{statement}
 use Rattle.arc.proofs.write_eighths.Tie as tie
 

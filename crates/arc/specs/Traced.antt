@@ -8,7 +8,7 @@ use Rattle.point.specs.declared.Point.{Point}
 use Rattle.polyline.specs.Polyline.{pointAt}
 
 -- the places up to the n-th hold the points of their steps
-pub record Filled (point : ℕ → Point) (n : ℕ) (xs ys : List Float) : Type 0 where
+pub record Traced (point : ℕ → Point) (n : ℕ) (xs ys : List Float) : Type 0 where
   pub xs-length : length xs ≡ 33
   pub ys-length : length ys ≡ 33
   pub bound : n ≤ 32

@@ -10,7 +10,7 @@ use lib.ListN.{length, set, length-set}
 use lib.Seq.{getD-set-same, getD-set-other}
 use Rattle.point.specs.declared.Point.{Point}
 use Rattle.polyline.specs.Polyline.{pointAt}
-use Rattle.arc.specs.Filled.{Filled, Thirds}
+use Rattle.arc.specs.Traced.{Traced, Thirds}
 
 -- ---- a point written at the place m
 module _ (xs ys : List Float) (m : ℕ) (x y : Float) where
@@ -21,12 +21,12 @@ module _ (xs ys : List Float) (m : ℕ) (x y : Float) where
   kept k n = ap₂ (λ (a b : Float). record { x = a; y = b }) (getD-set-other xs m k x nan (omega arith)) (getD-set-other ys m k y nan (omega arith))
 
 module _ (point : ℕ → Point) where
-  pub filled-first : (xs ys : List Float) → length xs ≡ 33 → length ys ≡ 33 → pointAt xs ys 0 ≡ point 0 → Filled point 0 xs ys
-  filled-first xs ys X Y e = record { xs-length = X; ys-length = Y; bound = omega arith; same = λ k h. let z : 0 ≡ k = omega arith in subst (λ (i : ℕ). pointAt xs ys i ≡ point i) z e }
+  pub traced-first : (xs ys : List Float) → length xs ≡ 33 → length ys ≡ 33 → pointAt xs ys 0 ≡ point 0 → Traced point 0 xs ys
+  traced-first xs ys X Y e = record { xs-length = X; ys-length = Y; bound = omega arith; same = λ k h. let z : 0 ≡ k = omega arith in subst (λ (i : ℕ). pointAt xs ys i ≡ point i) z e }
 
   module _ (n m : ℕ) (xs ys : List Float) (x y : Float) (next : n + 1 ≡ m) (small : m ≤ 32) where
-    pub filled-more : Filled point n xs ys → _≡_ {A = Point} (record { x = x; y = y }) (point m) → Filled point m (set xs m x) (set ys m y)
-    filled-more F e = record {
+    pub traced-more : Traced point n xs ys → _≡_ {A = Point} (record { x = x; y = y }) (point m) → Traced point m (set xs m x) (set ys m y)
+    traced-more F e = record {
       xs-length = length-set xs m x ∙ F .xs-length;
       ys-length = length-set ys m y ∙ F .ys-length;
       bound = small;
@@ -70,7 +70,7 @@ module _ (point : ℕ → Point) where
       apart j (inr e) z = omega arith
 
   -- two points and the third after them, which is there
-  module _ (g : ℕ) (xs ys : List Float) (T : Thirds point 8 xs ys) (F : Filled point (3 * g) xs ys) (inside : g < 8) (p q : Point) (P : p ≡ point (3 * g + 1)) (Q : q ≡ point (3 * g + 2)) where
+  module _ (g : ℕ) (xs ys : List Float) (T : Thirds point 8 xs ys) (F : Traced point (3 * g) xs ys) (inside : g < 8) (p q : Point) (P : p ≡ point (3 * g + 1)) (Q : q ≡ point (3 * g + 2)) where
     abbrev xs1 : List Float
     xs1 = set xs (3 * g + 1) (p .x)
 
@@ -86,19 +86,19 @@ module _ (point : ℕ → Point) where
     pub thirds-between : Thirds point 8 xs2 ys2
     thirds-between = thirds-stay 8 (3 * g + 2) g xs1 ys1 (q .x) (q .y) (thirds-stay 8 (3 * g + 1) g xs ys (p .x) (p .y) T (inl (omega arith))) (inr (omega arith))
 
-    filled-both : Filled point (3 * g + 2) xs2 ys2
-    filled-both =
-        filled-more (3 * g + 1) (3 * g + 2) xs1 ys1 (q .x) (q .y) (omega arith) (omega arith)
-        (filled-more (3 * g) (3 * g + 1) xs ys (p .x) (p .y) (omega arith) (omega arith) F P) Q
+    traced-both : Traced point (3 * g + 2) xs2 ys2
+    traced-both =
+        traced-more (3 * g + 1) (3 * g + 2) xs1 ys1 (q .x) (q .y) (omega arith) (omega arith)
+        (traced-more (3 * g) (3 * g + 1) xs ys (p .x) (p .y) (omega arith) (omega arith) F P) Q
 
-    pub filled-third : Filled point (3 * (g + 1)) xs2 ys2
-    filled-third = record {
-      xs-length = filled-both .xs-length;
-      ys-length = filled-both .ys-length;
+    pub traced-third : Traced point (3 * (g + 1)) xs2 ys2
+    traced-third = record {
+      xs-length = traced-both .xs-length;
+      ys-length = traced-both .ys-length;
       bound = omega arith;
       same = λ k h. go k (eq-or-lt-of-le h);
     }
       where
         go : (k : ℕ) → (k ≡ 3 * (g + 1)) ⊎ (k < 3 * (g + 1)) → pointAt xs2 ys2 k ≡ point k
         go k (inl z) = subst (λ (i : ℕ). pointAt xs2 ys2 i ≡ point i) (sym z) (thirds-between .same (g + 1) (omega arith))
-        go k (inr l) = filled-both .same k (omega arith)
+        go k (inr l) = traced-both .same k (omega arith)
