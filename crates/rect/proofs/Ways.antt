@@ -1,6 +1,6 @@
 -- What each way out of a function of this crate owes, as the code meets it. Assumes nothing.
 use mathlib.Core.Path.{_≡_, refl, sym}
-use mathlib.Core.Bool.{true, false}
+use mathlib.Core.Bool.{Bool, true, false}
 use mathlib.Core.List.{List}
 use Prim.Native.Nat.{ℕ, suc, _≤_}
 use native.Mathlib.Omega.{arith}
@@ -53,30 +53,32 @@ module _ (box : Bounds) (k : ℕ) (a0 : k ≡ 0 → ⊥) (a1 : k ≡ 1 → ⊥) 
   round-past q a4 a5 a6 a7 a8 =
       sym (closes (roundRect box q) 9 k refl (next (next (next (next (next four a4) a5) a6) a7) a8))
 
-module _ (box : Bounds) (q : Float) (sharp : le q epsilon ≡ true) where
-  pub rect-plain : (k : ℕ) (r : PathCommand) → r ≡ getD (plainRect box) k Close → r ≡ getD (rectPath box q) k Close
+-- ---- which of the two it is
+module _ (box : Bounds) (q : Float) (t : Bool) (is : t ≡ le q epsilon) where
+  pub rect-plain : t ≡ true → rectPath box q ≡ plainRect box
   unfolding rectPath
-  rect-plain k r e = rw sharp e
+  rect-plain h = rw (← is, h)
 
-  pub plain-count : 5 ≡ length (rectPath box q)
-  unfolding rectPath plainRect
-  plain-count = rw sharp
-
-  pub plain-numbers : 8 ≡ length (numbersOf (rectPath box q))
-  unfolding rectPath plainRect
-  plain-numbers = rw sharp
-
-module _ (box : Bounds) (q : Float) (round : le q epsilon ≡ false) where
-  pub rect-round : (k : ℕ) (r : PathCommand) → r ≡ getD (roundRect box q) k Close → r ≡ getD (rectPath box q) k Close
+  pub rect-round : t ≡ false → rectPath box q ≡ roundRect box q
   unfolding rectPath
-  rect-round k r e = rw round e
+  rect-round h = rw (← is, h)
 
-  pub round-count : 10 ≡ length (rectPath box q)
-  unfolding rectPath roundRect
-  round-count = rw round
+  module _ (h : t ≡ true) where
+    pub plain-count : 5 ≡ length (rectPath box q)
+    unfolding plainRect
+    plain-count = rw (rect-plain h)
 
-  pub round-numbers : 34 ≡ length (numbersOf (rectPath box q))
-  unfolding rectPath roundRect
-  round-numbers = rw round
+    pub plain-numbers : 8 ≡ length (numbersOf (rectPath box q))
+    unfolding plainRect
+    plain-numbers = rw (rect-plain h)
 
-pub ruleset ways = (bounds-are, radius-is, at-known, plain-past, round-past, rect-plain, plain-count, plain-numbers, rect-round, round-count, round-numbers)
+  module _ (h : t ≡ false) where
+    pub round-count : 10 ≡ length (rectPath box q)
+    unfolding roundRect
+    round-count = rw (rect-round h)
+
+    pub round-numbers : 34 ≡ length (numbersOf (rectPath box q))
+    unfolding roundRect
+    round-numbers = rw (rect-round h)
+
+pub ruleset ways = (bounds-are, radius-is, at-known, plain-past, round-past, plain-count, plain-numbers, round-count, round-numbers)

@@ -2,12 +2,13 @@
 // a command at a time.
 use command::PathCommand;
 ghost use mathlib.Core.Path.{_≡_};
+ghost use lib.Ieee.{le};
 ghost use lib.ListN.{length, getD};
 ghost use Rattle.command.specs.declared.PathCommand.the-variants.{Close};
 ghost use Rattle.command.specs.Commands.{numbersOf};
 ghost use Rattle.rect.specs.declared.Bounds.{Bounds};
 ghost use Rattle.rect.specs.Bounds.{rectBounds};
-ghost use Rattle.rect.specs.Rect.{cornerRadius, plainRect, roundRect, rectPath};
+ghost use Rattle.rect.specs.Rect.{epsilon, cornerRadius, plainRect, roundRect, rectPath};
 
 // The sides of a box.
 pub struct Bounds {
@@ -47,8 +48,15 @@ pub fn corner_radius(w: f32, h: f32, roundness: f32) -> f32
     float::clamp(roundness, 0.0, smaller * 0.5)
 }
 
+// Whether corners of this radius are sharp.
+pub fn is_plain(radius: f32) -> bool
+    ensures { λ r. ⌜ r ≡ le radius epsilon ⌝ }
+{
+    radius <= EPSILON
+}
+
 // The command at place k of a rectangle with sharp corners.
-fn plain_command(bounds: Bounds, k: usize) -> PathCommand
+pub fn plain_command(bounds: Bounds, k: usize) -> PathCommand
     ensures { λ r. ⌜ r ≡ getD (plainRect bounds) k Close ⌝ }
 {
     match k {
@@ -61,7 +69,7 @@ fn plain_command(bounds: Bounds, k: usize) -> PathCommand
 }
 
 // The command at place k of a rectangle with round corners.
-fn round_command(bounds: Bounds, radius: f32, k: usize) -> PathCommand
+pub fn round_command(bounds: Bounds, radius: f32, k: usize) -> PathCommand
     ensures { λ r. ⌜ r ≡ getD (roundRect bounds radius) k Close ⌝ }
 {
     let s = radius * KAPPA;
@@ -83,27 +91,16 @@ fn round_command(bounds: Bounds, radius: f32, k: usize) -> PathCommand
     }
 }
 
-// The command at place k of a rectangle.
-pub fn rect_command(bounds: Bounds, radius: f32, k: usize) -> PathCommand
-    ensures { λ r. ⌜ r ≡ getD (rectPath bounds radius) k Close ⌝ }
-{
-    if radius <= EPSILON {
-        plain_command(bounds, k)
-    } else {
-        round_command(bounds, radius, k)
-    }
-}
-
 // How many commands a rectangle has, whatever its box.
 pub fn rect_count(radius: f32) -> usize
     ensures { λ r. ⌜ ((b : Bounds) → r ≡ length (rectPath b radius)) ⌝ }
 {
-    if radius <= EPSILON { 5 } else { 10 }
+    if is_plain(radius) { 5 } else { 10 }
 }
 
 // How many numbers those commands have.
 pub fn rect_numbers(radius: f32) -> usize
     ensures { λ r. ⌜ ((b : Bounds) → r ≡ length (numbersOf (rectPath b radius))) ⌝ }
 {
-    if radius <= EPSILON { 8 } else { 34 }
+    if is_plain(radius) { 8 } else { 34 }
 }

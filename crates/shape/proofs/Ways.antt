@@ -11,7 +11,7 @@ use lib.Dec.{leb}
 use lib.Seq.{sets}
 use borrow.Author.Tests.{lt-leb, le-leb, leb-true}
 use lib.ListN.{length, getD}
-use lib.Ieee.{Float}
+use lib.Ieee.{Float, le}
 use Rattle.command.specs.declared.PathCommand.{PathCommand}
 use Rattle.command.specs.declared.PathCommand.the-variants.{Close}
 use Rattle.command.specs.declared.Refusal.the-variants.{BufferTooSmall}
@@ -25,7 +25,8 @@ use Rattle.path.specs.Path.{bezierPath, verticesOf, bezierCount, pathCommands}
 use Rattle.path.proofs.Paths.{pathCommands-length}
 use Rattle.path.proofs.Counts.{path-numbers}
 use Rattle.rect.specs.declared.Bounds.{Bounds}
-use Rattle.rect.specs.Rect.{rectPath}
+use Rattle.rect.specs.Rect.{epsilon, plainRect, roundRect, rectPath}
+use Rattle.rect.proofs.Ways.{rect-plain, rect-round}
 use Rattle.shape.specs.declared.Shape.{Shape}
 use Rattle.shape.specs.declared.Shape.the-variants.{Path, Rect}
 use Rattle.shape.specs.Shape.{boundsOf, shapeCommands, Fit}
@@ -77,10 +78,26 @@ module _ (radius : Float) (v : List Float) where
   unfolding shapeCommands
   rect-numbers m f = f _
 
-  pub rect-command : (k : ℕ) (r : PathCommand) (b : Bounds) → b ≡ boundsOf v
-      → r ≡ getD (rectPath b radius) k Close → r ≡ getD (shapeCommands (Rect radius) v) k Close
-  unfolding shapeCommands
-  rect-command k r b e f = rw (← e) f
+  module _ (b : Bounds) (t : Bool) (here : b ≡ boundsOf v) (is : t ≡ le radius epsilon) where
+    pub plain-is : t ≡ true → shapeCommands (Rect radius) v ≡ plainRect b
+    unfolding shapeCommands
+    plain-is h = rw (← here) (rect-plain b radius t is h)
+
+    pub round-is : t ≡ false → shapeCommands (Rect radius) v ≡ roundRect b radius
+    unfolding shapeCommands
+    round-is h = rw (← here) (rect-round b radius t is h)
+
+module _ (cs : List PathCommand) (b : Bounds) where
+  pub plain-five : cs ≡ plainRect b → 5 ≡ length cs
+  unfolding plainRect
+  plain-five e = rw e
+
+  pub round-ten : (radius : Float) → cs ≡ roundRect b radius → 10 ≡ length cs
+  unfolding roundRect
+  round-ten radius e = rw e
+
+pub command-is : (cs ds : List PathCommand) (k : ℕ) (r : PathCommand) → cs ≡ ds → r ≡ getD ds k Close → r ≡ getD cs k Close
+command-is cs ds k r e f = rw e f
 
 pub rect-fit : (s : Shape) (v : List Float) (radius : Float) → s ≡ Rect radius → Fit s v → Fit (Rect radius) v
 rect-fit s v radius is fit = rw is at fit
@@ -119,7 +136,7 @@ exact-enough a n e = omega arith
 -- all that the loops over a path and over a rectangle ask, and all that the matches on the kind ask
 pub ruleset path-loops = (path-count, path-command, path-size, counts, writes, few)
 
-pub ruleset rect-loops = (rect-count, rect-command, writes)
+pub ruleset rect-loops = (plain-is, plain-five, round-is, round-ten, command-is, writes)
 
 pub ruleset path-arms = (path-fit, path-few, path-count, six-fits, two-more-fit, path-enough)
 

@@ -104,6 +104,7 @@ fn bounds_of(list: &[f32]) -> Bounds
 }
 
 // Writes a rectangle at places of buffers that it fits, and gives the place after its numbers.
+// The counts are literals, so that the compiler lays the turns out one after the other.
 fn write_rect(
     radius: f32,
     list: &[f32],
@@ -120,11 +121,19 @@ fn write_rect(
     ensures { λ _. ⌜ now (numbers .exit) ≡ sets (now (numbers .entry)) j (numbersOf (shapeCommands (Rect radius) (now (list .entry)))) ⌝ }
 {
     let bounds = bounds_of(list);
-    let count = rect::rect_count(radius);
     let mut at = j;
     let mut k: usize = 0;
-    while k < count {
-        let c = rect::rect_command(bounds, radius, k);
+    if rect::is_plain(radius) {
+        while k < 5 {
+            let c = rect::plain_command(bounds, k);
+            codes[i + k] = command::code(c);
+            at = command::put_numbers(c, numbers, at);
+            k += 1;
+        }
+        return at;
+    }
+    while k < 10 {
+        let c = rect::round_command(bounds, radius, k);
         codes[i + k] = command::code(c);
         at = command::put_numbers(c, numbers, at);
         k += 1;

@@ -10,7 +10,7 @@ use lib.Pow.{pow-pos, pow-mono, shl-lt}
 use lib.Ieee.{Float, binary32, round, sum, add, sub, neg, ofBits}
 use lib.Ieee.Exact.{HasValue, round-exact}
 use lib.Ieee.Nearest.{closest, closest-mono}
-use Rattle.ieee.specs.Literal.{one32}
+use Rattle.ieee.specs.Literal.{zero32, one32}
 use Rattle.ieee.specs.Cut.{cut}
 use Rattle.ieee.proofs.Digits.{size-is}
 use Rattle.ieee.proofs.Closest.{closest-exact}
@@ -58,6 +58,10 @@ pub one-value : HasValue one32 false 1 1
 unfolding ofBits
 one-value = (refl, refl)
 
+pub zero-value : HasValue zero32 false 0 1
+unfolding ofBits
+zero-value = (refl, refl)
+
 -- ---- sums
 pub sum-minus : (a b c : ℕ) → b ≤ a → sum binary32 false a true b c ≡ round binary32 false (a - b) c
 unfolding sum
@@ -77,8 +81,8 @@ half-up-value k h =
 
 -- ---- from the value of a whole number
 module _ (r : Float) (k : ℕ) where
-  pub next : (s : Bool) → HasValue r s k 1 → (o : Float) → HasValue o s 1 1 → add binary32 r o ≡ round binary32 s (k + 1) 1
-  next s v o w = add-at binary32 r o s s k 1 1 (lit< tt) v w ∙ sum-alike binary32 s k 1 1
+  pub further : (s : Bool) → HasValue r s k 1 → (o : Float) (j : ℕ) → HasValue o s j 1 → add binary32 r o ≡ round binary32 s (k + j) 1
+  further s v o j w = add-at binary32 r o s s k j 1 (lit< tt) v w ∙ sum-alike binary32 s k j 1
 
   pub half-up : HasValue r false k 1 → add binary32 r half32 ≡ round binary32 false (2 * k + 1) 2
   half-up v =

@@ -1,18 +1,18 @@
 -- From the nearest whole number with a half to the even one, one test leads to `round`, and one to `floor`. Assumes nothing.
 use mathlib.Core.Path.{_≡_, refl, sym, ap, _∙_, subst}
-use Prim.Native.Nat.{ℕ, _+_, _*_, _^_, _≤_, _<_}
+use Prim.Native.Nat.{ℕ, _+_, _-_, _*_, _^_, _≤_, _<_}
 use mathlib.Core.Logic.{inl, inr}
-use native.Mathlib.Nat.{lt-of-le-of-lt, eq-or-lt-of-le, ne-of-lt, mul-one, mul-assoc}
+use native.Mathlib.Nat.{add-zero, sub-zero, lt-of-le-of-lt, eq-or-lt-of-le, ne-of-lt, mul-one, mul-assoc}
 use native.Mathlib.Omega.{arith}
-use mathlib.Core.Bool.{Bool, true, false, _&&_}
+use mathlib.Core.Bool.{Bool, true, false, cond, _&&_}
 use borrow.Author.Tests.{eqb-true, eqb-false, ltb-true, ltb-false}
 use lib.Dec.{eqb, lit<}
 use lib.Ieee.{Float, binary32, round, add, sub, neg, eq, lt, below}
 use lib.Ieee.Exact.{HasValue}
 use lib.Ieee.Nearest.{closest}
-use Rattle.ieee.specs.Literal.{one32}
+use Rattle.ieee.specs.Literal.{zero32, one32}
 use Rattle.ieee.specs.Sign.{abs}
-use Rattle.ieee.specs.Whole.{wholeNear, floor, roundAway}
+use Rattle.ieee.specs.Whole.{wholeDown, wholeUp, wholeNear, floor, roundAway}
 use Rattle.ieee.proofs.Value.{rescale, neg-val}
 use Rattle.ieee.proofs.Operations.{add-at, sub-is}
 use Rattle.ieee.proofs.Comparison.{eq-at, lt-at}
@@ -21,7 +21,7 @@ use Rattle.whole.specs.Even.{roundEven}
 use Rattle.whole.specs.Small.{Small}
 use Rattle.whole.proofs.Closest.{above, near-next, near-same, down-same, down-before, up-next, up-same}
 use Rattle.whole.proofs.Even.{evenWay, even-way, even-goes, even-at, U, U-pos, at-most}
-use Rattle.whole.proofs.Even.{half32, one-value, sum-minus, whole-value, half-up-value, next, half-up}
+use Rattle.whole.proofs.Even.{half32, zero-value, one-value, sum-minus, whole-value, half-up-value, further, half-up}
 use Rattle.whole.proofs.Signs.{signed-value}
 
 -- ---- `round`, of a size: a half that went down goes up
@@ -86,17 +86,16 @@ module _ (x r : Float) (S : Small x) (e : r ≡ roundEven binary32 x) where
   round-at : roundAway binary32 x ≡ round binary32 false (wholeNear n U) 1
   round-at = whole-at binary32 nearWay (roundAway binary32) near-way (near-goes binary32) x false n U U-pos (S .value)
 
-  pub near-size-next : eq (add binary32 r half32) x ≡ true → add binary32 r one32 ≡ roundAway binary32 x
-  near-size-next t =
-      next r k false r-value one32 one-value
-      ∙ ap (λ (z : ℕ). round binary32 false z 1) (sym (near-next n U U-pos (middle .2 (eqb-true (middle .0) n (sym test-is ∙ t)))))
-      ∙ sym round-at
+  -- a step of j leads to `round` where it leads to the same number of units
+  stepped : (o : Float) (j : ℕ) → HasValue o false j 1 → wholeNear n U ≡ k + j → add binary32 r o ≡ roundAway binary32 x
+  stepped o j w h = further r k false r-value o j w ∙ ap (λ (z : ℕ). round binary32 false z 1) (sym h) ∙ sym round-at
 
-  pub near-size-same : eq (add binary32 r half32) x ≡ false → r ≡ roundAway binary32 x
-  near-size-same t =
-      r-is
-      ∙ ap (λ (z : ℕ). round binary32 false z 1) (sym (near-same n U U-pos (λ h. eqb-false (middle .0) n (sym test-is ∙ t) (middle .3 h))))
-      ∙ sym round-at
+  pub near-size-is : (o : Float) → o ≡ cond (eq (add binary32 r half32) x) one32 zero32 → add binary32 r o ≡ roundAway binary32 x
+  near-size-is o e = ap (add binary32 r) e ∙ go (eq (add binary32 r half32) x) refl
+    where
+      go : (t : Bool) → eq (add binary32 r half32) x ≡ t → add binary32 r (cond t one32 zero32) ≡ roundAway binary32 x
+      go true h = stepped one32 1 one-value (near-next n U U-pos (middle .2 (eqb-true (middle .0) n (sym test-is ∙ h))))
+      go false h = stepped zero32 0 zero-value (near-same n U U-pos (λ l. eqb-false (middle .0) n (sym test-is ∙ h) (middle .3 l)) ∙ sym (add-zero k))
 
 -- ---- `floor`, for either sign
 module _ (x r : Float) (S : Small (abs x)) (e : r ≡ roundEven binary32 x) where
@@ -123,43 +122,29 @@ module _ (x r : Float) (S : Small (abs x)) (e : r ≡ roundEven binary32 x) wher
     floor-at : floor binary32 x ≡ round binary32 s (floorWay s N U) 1
     floor-at = whole-at binary32 floorWay (floor binary32) floor-way (floor-goes binary32) x s N U U-pos v
 
-  before-plus : HasValue x false N U → lt x r ≡ true → sub binary32 r one32 ≡ floor binary32 x
-  before-plus v t =
-      let l : N < C * U = ltb-true N (C * U) (sym (above-is false v) ∙ t) in
-      sub-is binary32 r one32
-      ∙ add-at binary32 r (neg one32) false true C 1 1 (lit< tt) (even-value false v) (neg-val one32 false 1 1 one-value)
-      ∙ sum-minus C 1 1 (above N U U-pos C l)
-      ∙ ap (λ (z : ℕ). round binary32 false z 1) (sym (down-before N U U-pos l))
+  -- a step of j down leads to `floor` where it leads to the same whole number
+  stepped-plus : HasValue x false N U → (o : Float) (j : ℕ) → HasValue o false j 1 → j ≤ C → wholeDown N U ≡ C - j → sub binary32 r o ≡ floor binary32 x
+  stepped-plus v o j w l h =
+      sub-is binary32 r o
+      ∙ add-at binary32 r (neg o) false true C j 1 (lit< tt) (even-value false v) (neg-val o false j 1 w)
+      ∙ sum-minus C j 1 l
+      ∙ ap (λ (z : ℕ). round binary32 false z 1) (sym h)
       ∙ sym (floor-at false v)
 
-  before-minus : HasValue x true N U → lt x r ≡ true → sub binary32 r one32 ≡ floor binary32 x
-  before-minus v t =
-      let l : C * U < N = ltb-true (C * U) N (sym (above-is true v) ∙ t) in
-      sub-is binary32 r one32
-      ∙ next r C true (even-value true v) (neg one32) (neg-val one32 false 1 1 one-value)
-      ∙ ap (λ (z : ℕ). round binary32 true z 1) (sym (up-next N U U-pos l))
+  stepped-minus : HasValue x true N U → (o : Float) (j : ℕ) → HasValue o false j 1 → wholeUp N U ≡ C + j → sub binary32 r o ≡ floor binary32 x
+  stepped-minus v o j w h =
+      sub-is binary32 r o
+      ∙ further r C true (even-value true v) (neg o) j (neg-val o false j 1 w)
+      ∙ ap (λ (z : ℕ). round binary32 true z 1) (sym h)
       ∙ sym (floor-at true v)
 
-  same-plus : HasValue x false N U → lt x r ≡ false → r ≡ floor binary32 x
-  same-plus v t =
-      let l : C * U ≤ N = ltb-false N (C * U) (sym (above-is false v) ∙ t) in
-      even-is false v ∙ ap (λ (z : ℕ). round binary32 false z 1) (sym (down-same N U U-pos l)) ∙ sym (floor-at false v)
-
-  same-minus : HasValue x true N U → lt x r ≡ false → r ≡ floor binary32 x
-  same-minus v t =
-      let l : N ≤ C * U = ltb-false (C * U) N (sym (above-is true v) ∙ t) in
-      even-is true v ∙ ap (λ (z : ℕ). round binary32 true z 1) (sym (up-same N U U-pos l)) ∙ sym (floor-at true v)
-
-  pub floor-before : lt x r ≡ true → sub binary32 r one32 ≡ floor binary32 x
-  floor-before t = go (signed-value x N U (S .value) .0) (signed-value x N U (S .value) .1)
+  pub floor-is : (o : Float) → o ≡ cond (lt x r) one32 zero32 → sub binary32 r o ≡ floor binary32 x
+  floor-is o e = ap (sub binary32 r) e ∙ go (signed-value x N U (S .value) .0) (signed-value x N U (S .value) .1) (lt x r) refl
     where
-      go : (s : Bool) → HasValue x s N U → sub binary32 r one32 ≡ floor binary32 x
-      go true v = before-minus v t
-      go false v = before-plus v t
-
-  pub floor-same : lt x r ≡ false → r ≡ floor binary32 x
-  floor-same t = go (signed-value x N U (S .value) .0) (signed-value x N U (S .value) .1)
-    where
-      go : (s : Bool) → HasValue x s N U → r ≡ floor binary32 x
-      go true v = same-minus v t
-      go false v = same-plus v t
+      go : (s : Bool) → HasValue x s N U → (t : Bool) → lt x r ≡ t → sub binary32 r (cond t one32 zero32) ≡ floor binary32 x
+      go true v true h = stepped-minus v one32 1 one-value (up-next N U U-pos (ltb-true (C * U) N (sym (above-is true v) ∙ h)))
+      go true v false h = stepped-minus v zero32 0 zero-value (up-same N U U-pos (ltb-false (C * U) N (sym (above-is true v) ∙ h)) ∙ sym (add-zero C))
+      go false v true h =
+          let l : N < C * U = ltb-true N (C * U) (sym (above-is false v) ∙ h) in
+          stepped-plus v one32 1 one-value (above N U U-pos C l) (down-before N U U-pos l)
+      go false v false h = stepped-plus v zero32 0 zero-value (omega arith) (down-same N U U-pos (ltb-false N (C * U) (sym (above-is false v) ∙ h)) ∙ sym (sub-zero C))

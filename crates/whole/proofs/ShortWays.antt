@@ -2,11 +2,11 @@
 use mathlib.Core.Path.{_≡_, sym, ap, _∙_, subst}
 use Prim.Native.Nat.{ℕ, _+_, _-_, _%_, _^_, _<_}
 use native.Mathlib.Omega.{arith}
-use mathlib.Core.Bool.{Bool, true, false, not}
+use mathlib.Core.Bool.{Bool, true, false, not, cond}
 use lib.Dec.{T}
 use lib.Ieee.{Float, nan, inf, fin, binary32, sub, mul, neg, lt, fits, isNan, nanBits, toBits}
 use lib.Ieee.Bits.{toBits-lt}
-use Rattle.ieee.specs.Literal.{one32}
+use Rattle.ieee.specs.Literal.{zero32, one32}
 use Rattle.ieee.specs.Sign.{abs}
 use Rattle.ieee.specs.Limit.{within}
 use Rattle.ieee.specs.Whole.{floor, ceil, roundAway}
@@ -17,7 +17,7 @@ use Rattle.whole.specs.Even.{roundEven}
 use Rattle.whole.specs.Small.{Small, UnitOf}
 use Rattle.whole.proofs.Even.{even-size-is}
 use Rattle.whole.proofs.Limit.{limit, small-within, stays-beyond}
-use Rattle.whole.proofs.Short.{near-size-next, near-size-same, floor-before, floor-same}
+use Rattle.whole.proofs.Short.{near-size-is, floor-is}
 use Rattle.whole.proofs.Signs.{unit-of, round-short, even-short, abs-neg, mirrored}
 
 -- ---- size_of, unit_of
@@ -70,19 +70,15 @@ module _ (x a r u : Float) (S : Small (abs x)) (e : a ≡ abs x) (o : UnitOf x u
     even-signed : mul binary32 r u ≡ roundEven binary32 x
     even-signed = even-short x r u S o (k ∙ ap (roundEven binary32) e)
 
-    pub floor-lowered : lt x (mul binary32 r u) ≡ true → sub binary32 (mul binary32 r u) one32 ≡ floor binary32 x
-    floor-lowered = floor-before x (mul binary32 r u) S even-signed
-
-    pub floor-kept : lt x (mul binary32 r u) ≡ false → mul binary32 r u ≡ floor binary32 x
-    floor-kept = floor-same x (mul binary32 r u) S even-signed
+    pub floor-stepped : (o : Float) → o ≡ cond (lt x (mul binary32 r u)) one32 zero32 → sub binary32 (mul binary32 r u) o ≡ floor binary32 x
+    floor-stepped = floor-is x (mul binary32 r u) S even-signed
 
 pub ceil-mirrored : (x r : Float) → r ≡ floor binary32 (neg x) → neg r ≡ ceil binary32 x
 ceil-mirrored x r e = ap neg e ∙ mirrored x
 
 pub ruleset short-ways = (
   even-size-is,
-  near-size-next,
-  near-size-same,
+  near-size-is,
   abs-number,
   size-ok,
   unit-fits,
@@ -96,7 +92,6 @@ pub ruleset short-ways = (
   ceil-beyond,
   round-beyond,
   round-signed,
-  floor-lowered,
-  floor-kept,
+  floor-stepped,
   ceil-mirrored,
 )

@@ -1,10 +1,11 @@
 // A float to a whole number: down, up, and to the nearest one. A result of zero keeps the sign.
 ghost use mathlib.Core.Path.{_≡_};
 ghost use Prim.Native.Nat.{_^_, _≤_, _<_};
-ghost use mathlib.Core.Bool.{not};
+ghost use mathlib.Core.Bool.{not, cond};
 ghost use lib.Dec.{T};
 ghost use lib.Ieee as Ieee;
 ghost use lib.Ieee.{binary32, isNan};
+ghost use Rattle.ieee.specs.Literal.{zero32, one32};
 ghost use Rattle.ieee.specs.Sign as Sign;
 ghost use Rattle.ieee.specs.Whole as Whole;
 ghost use Rattle.ieee.specs.Whole.{wholeDown, wholeUp};
@@ -42,6 +43,13 @@ pub fn up_at(q: u64, s: u64) -> u64
     if q == 0 { 0 } else { 1 }
 }
 
+// A step to the next whole number, or none: a sum with it has no branch to guess.
+fn step_if(needed: bool) -> f32
+    ensures { λ r. ⌜ r ≡ cond needed one32 zero32 ⌝ }
+{
+    if needed { 1.0 } else { 0.0 }
+}
+
 // The whole number nearest to a size below 2^23, half to even. From 2^23 to 2^24 the last digit of a
 // float is worth 1, so the sum rounds there, and the difference is exact.
 fn even_size(a: f32) -> f32
@@ -58,7 +66,7 @@ fn near_size(a: f32) -> f32
     ensures { λ r. ⌜ r ≡ Whole.roundAway binary32 a ⌝ }
 {
     let r = even_size(a);
-    if r + 0.5 == a { r + 1.0 } else { r }
+    r + step_if(r + 0.5 == a)
 }
 
 // x without its sign.
@@ -92,7 +100,7 @@ fn floor_short(x: f32) -> f32
     ensures { λ r. ⌜ r ≡ Whole.floor binary32 x ⌝ }
 {
     let r = even_size(size_of(x)) * unit_of(x);
-    if r > x { r - 1.0 } else { r }
+    r - step_if(r > x)
 }
 
 // Rust's f32::floor.

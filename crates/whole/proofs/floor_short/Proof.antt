@@ -13,12 +13,12 @@ even-size-requires c κs = search (needs, short-ways)
 unit-of-requires : tie.Need-unit-of-requires
 unit-of-requires c κs = search (needs, short-ways)
 
+step-if-requires : tie.Need-step-if-requires
+step-if-requires c κs = tt
+
 returns : tie.Need-returns
 returns c = search (needs, short-ways)
 
-returns-2 : tie.Need-returns-2
-returns-2 c = search (needs, short-ways)
-
 pub floor-short-spec : {M : Type 1} → statement M
 floor-short-spec =
-    tie.close (tie.spec size-of-requires even-size-requires unit-of-requires returns returns-2)
+    tie.close (tie.spec size-of-requires even-size-requires unit-of-requires step-if-requires returns)

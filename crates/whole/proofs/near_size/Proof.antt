@@ -7,11 +7,11 @@ use Rattle.whole.proofs.near_size.Tie as tie
 even-size-requires : tie.Need-even-size-requires
 even-size-requires c κs = search needs
 
+step-if-requires : tie.Need-step-if-requires
+step-if-requires c κs = tt
+
 returns : tie.Need-returns
 returns c = search (needs, short-ways)
 
-returns-2 : tie.Need-returns-2
-returns-2 c = search (needs, short-ways)
-
 pub near-size-spec : {M : Type 1} → statement M
-near-size-spec = tie.close (tie.spec even-size-requires returns returns-2)
+near-size-spec = tie.close (tie.spec even-size-requires step-if-requires returns)
