@@ -55,7 +55,8 @@ enum jengafir_kind {
 };
 
 /* Of every function: the calling thread rounds to nearest and does not flush subnormal numbers to zero. So a program
-   starts, unless it is built with -ffast-math or changes the mode by <fenv.h> or the like. */
+   starts, unless it is built with -ffast-math or changes the mode by <fenv.h> or the like. A length that is handed
+   over with a pointer is true: so many entries stand there. */
 
 /* Of jengafir_draw_path, jengafir_draw_item and jengafir_merge: no pointer is null, and what is lent for writing
    overlaps nothing else that is lent. On acceptance the commands stand at the start of both buffers, and the counts

@@ -19,9 +19,9 @@ use Rattle.command.specs.declared.PathCommand.{PathCommand}
 use Rattle.command.specs.declared.PathCommand.the-variants.{Move, Line, Cubic, Close, Quad}
 use Rattle.command.specs.declared.Refusal.{Refusal}
 use Rattle.command.specs.Commands.{codeOf, coordinatesOf, codesOf, numbersOf, commandLimit}
-use Rattle.command.specs.Outcomes.{Outcome, refused, accepted, Check, checked}
+use Rattle.command.specs.Outcomes.{Outcome, refused, accepted, Check, checked, AllPass}
 use Rattle.command.specs.Enlarged.{enlarged, AllOn, CommandTwin, Twins, DrawingTwin}
-use Rattle.command.proofs.Outcomes.{AllPass, checks-relate}
+use Rattle.command.proofs.Outcomes.{checks-relate}
 use Rattle.command.proofs.Passes.{numbers-append}
 
 -- ---- numbers on a grid

@@ -1,6 +1,5 @@
--- Laws of outcomes: what passing a list of checks means, that whatever holds of every refusal and of the answer behind the checks holds of the whole,
--- and that no refusal has the
--- number 0. Assumes nothing.
+-- Laws of outcomes: whatever holds of every refusal and of the answer behind the checks holds of the whole, and no refusal has the number 0.
+-- Assumes nothing.
 use Prim.Native.Nat.{ℕ, _<_}
 use native.Mathlib.Omega.{arith}
 use mathlib.Core.Path.{_≡_, refl, sym, subst}
@@ -11,7 +10,7 @@ use Rattle.command.specs.declared.Refusal.the-variants.{Empty, TooMany, 
 use Rattle.command.specs.declared.Refusal.the-variants.{NotMergeable, TooShort, NoSuchCopy, NotFinite, BufferTooSmall, OutOfBounds}
 use Rattle.command.specs.declared.Counts.{Counts}
 use Rattle.command.specs.Refusals.{refusalNumber}
-use Rattle.command.specs.Outcomes.{Outcome, refused, accepted, numberOf, valueOr, Check, checked, Counted, countsOf}
+use Rattle.command.specs.Outcomes.{Outcome, refused, accepted, numberOf, valueOr, Check, checked, AllPass, Counted, countsOf}
 
 -- a refusal is no answer
 abbrev IsAccepted : {A : Type 0} → Outcome A → Type 0
@@ -20,11 +19,6 @@ IsAccepted (accepted a) = Unit {0}
 
 pub refused-accepted : {A : Type 0} (r : Refusal) (a : A) {B : Type 0} → refused r ≡ accepted a → B
 refused-accepted r a e = absurd (subst IsAccepted (sym e) tt)
-
--- each check finds nothing
-abbrev pub AllPass : List Check → Type 0
-AllPass [] = Unit {0}
-AllPass (c ∷ cs) = (c .fails ≡ false) × AllPass cs
 
 -- what holds of every two refusals that are the same, and of two outcomes behind checks that find nothing, holds with the checks before them
 pub checks-relate : {A B : Type 0} (R : Outcome A → Outcome B → Type 0) → ((r : Refusal) → R (refused r) (refused r)) → (cs : List Check) (o : Outcome A) (o' : Outcome B)

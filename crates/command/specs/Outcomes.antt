@@ -1,7 +1,7 @@
 -- Refused, or an answer: the one word for what a call comes to, the checks that come before an answer, and what a call tells of it. Definitions only.
 use Prim.Native.Nat.{ℕ}
 use mathlib.Core.Path.{_≡_}
-use mathlib.Core.Bool.{Bool, cond}
+use mathlib.Core.Bool.{Bool, false, cond}
 use mathlib.Core.List.{List, [], _∷_}
 use Rattle.command.specs.declared.Refusal.{Refusal}
 use Rattle.command.specs.declared.Counts.{Counts}
@@ -52,6 +52,11 @@ test gives r = record { fails = test; refusal = r }
 abbrev pub checked : {A : Type 0} → List Check → Outcome A → Outcome A
 checked [] o = o
 checked (c ∷ cs) o = cond (c .fails) (refused (c .refusal)) (checked cs o)
+
+-- each of them finds nothing
+abbrev pub AllPass : List Check → Type 0
+AllPass [] = Unit {0}
+AllPass (c ∷ cs) = (c .fails ≡ false) × AllPass cs
 
 -- ---- what is told of an outcome
 

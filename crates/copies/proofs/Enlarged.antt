@@ -20,8 +20,8 @@ use Rattle.ieee.proofs.Bounds.{on-bounded, bounded-finite}
 use Rattle.ieee.proofs.Grid.{weaken, scale-on}
 use Rattle.ieee.proofs.Limits as Limits
 use Rattle.command.specs.declared.Refusal.the-variants.{TooMany, OutOfRange, Unsupported, NoSuchCopy, NotFinite}
-use Rattle.command.specs.Outcomes.{Outcome, accepted, Check, _gives_, checked}
-use Rattle.command.proofs.Outcomes.{AllPass, checks-relate}
+use Rattle.command.specs.Outcomes.{Outcome, accepted, Check, _gives_, checked, AllPass}
+use Rattle.command.proofs.Outcomes.{checks-relate}
 use Rattle.repeater.specs.declared.Matrix.{Matrix}
 use Rattle.repeater.specs.declared.RepeaterStyle.{RepeaterStyle}
 use Rattle.repeater.specs.Repeater.{mostCopies, mostOffset, copyCount, copyTransform, copyOpacity}

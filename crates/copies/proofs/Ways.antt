@@ -27,9 +27,9 @@ use Rattle.count.specs.Count.{countUp, countLimit}
 use Rattle.command.specs.declared.Refusal.{Refusal}
 use Rattle.command.specs.declared.Refusal.the-variants.{TooMany, OutOfRange, Unsupported, NoSuchCopy, NotFinite, BufferTooSmall}
 use Rattle.command.specs.Refusals.{refusalNumber}
-use Rattle.command.specs.Outcomes.{Outcome, refused, accepted, andThen, _gives_, checked}
+use Rattle.command.specs.Outcomes.{Outcome, refused, accepted, andThen, _gives_, checked, AllPass}
 use Rattle.command.specs.Buffers.{fitted, inBuffer, Filled}
-use Rattle.command.proofs.Outcomes.{AllPass, checks-relate, checks-passed}
+use Rattle.command.proofs.Outcomes.{checks-relate, checks-passed}
 use Rattle.command.proofs.Buffers.{sets-append, fitted-accepted, fitted-refused, unfilled, filled}
 use Rattle.repeater.specs.declared.Matrix.{Matrix}
 use Rattle.repeater.specs.declared.RepeaterStyle.{RepeaterStyle}
@@ -42,7 +42,7 @@ use Rattle.copies.specs.Order.{rising, falling, orderOf, copyOrder}
 use Rattle.copies.specs.Calls.{repeaterNumbers, hasTooMany, repeaterLimit, repeaterChecks}
 use Rattle.copies.specs.Calls.{orderAnswer, copyNumbers, allFinite, copyAnswer, transformAnswer}
 
--- ---- verdict_of
+-- ---- check_repeater
 module _ (r : RepeaterStyle) where
   pub many-offset : lt mostCopies (r .copies) ≡ false → (a : Float) → a ≡ abs (r .offset) → lt mostOffset a ≡ hasTooMany r
   unfolding hasTooMany

@@ -11,9 +11,8 @@ ghost use lib.ListN.{length};
 ghost use lib.Seq.{sets};
 ghost use Rattle.ieee.specs.Limit.{allWithin};
 ghost use Rattle.command.specs.declared.Refusal.the-variants.{NotFinite};
-ghost use Rattle.command.specs.Outcomes.{accepted, _gives_, checked};
+ghost use Rattle.command.specs.Outcomes.{accepted, _gives_, checked, AllPass};
 ghost use Rattle.command.specs.Buffers.{fitted, inBuffer, Filled};
-ghost use Rattle.command.proofs.Outcomes.{AllPass};
 ghost use Rattle.copies.specs.Order.{rising, falling, orderOf};
 ghost use Rattle.copies.specs.Outcomes.{verdictOf, writtenNumber, writtenCount};
 ghost use Rattle.copies.specs.Calls as spec;
@@ -105,7 +104,7 @@ fn is_within(repeater: RepeaterStyle) -> bool
     float::all_within(&numbers, 1048576.0)
 }
 
-pub fn verdict_of(repeater: RepeaterStyle) -> Verdict
+pub fn check_repeater(repeater: RepeaterStyle) -> Verdict
     ensures { λ r. ⌜ verdictOf r ≡ checked (spec.repeaterChecks repeater) (accepted tt) ⌝ }
 {
     if has_too_many(repeater) {
@@ -181,7 +180,7 @@ pub fn copy_order(repeater: RepeaterStyle, order: &mut [u32]) -> Written
         (fitted (inBuffer (length (now (order .entry)))) (spec.orderAnswer repeater))
         (writtenNumber r) (writtenCount r) (now (order .entry)) (now (order .exit)) ⌝ }
 {
-    match verdict_of(repeater) {
+    match check_repeater(repeater) {
         Verdict::Fault(refusal) => Written::Refused(refusal),
         Verdict::Sound => {
             let n = repeater::copy_count(repeater);
@@ -265,7 +264,7 @@ pub fn copy_transform(repeater: RepeaterStyle, copy: usize, matrix: &mut [f32]) 
         (fitted (inBuffer (length (now (matrix .entry)))) (spec.transformAnswer repeater copy))
         (writtenNumber r) (writtenCount r) (now (matrix .entry)) (now (matrix .exit)) ⌝ }
 {
-    match verdict_of(repeater) {
+    match check_repeater(repeater) {
         Verdict::Fault(refusal) => Written::Refused(refusal),
         Verdict::Sound => write_sound(repeater, copy, matrix),
     }

@@ -18,9 +18,8 @@ use Rattle.ieee.specs.Choice.{max}
 use Rattle.command.specs.declared.Refusal.{Refusal}
 use Rattle.command.specs.declared.Refusal.the-variants.{OutOfRange, Unlisted, TooShort}
 use Rattle.command.specs.Refusals.{refusalNumber}
-use Rattle.command.specs.Outcomes.{Outcome, refused, accepted, mapped, andThen}
+use Rattle.command.specs.Outcomes.{Outcome, refused, accepted, mapped, andThen, AllPass}
 use Rattle.command.specs.Buffers.{onto}
-use Rattle.command.proofs.Outcomes.{AllPass}
 use Rattle.command.proofs.Buffers.{sets-append, sets-onto, unfilled}
 use Rattle.length.specs.declared.Measured.{Measured}
 use Rattle.length.specs.declared.Measured.the-variants as measured

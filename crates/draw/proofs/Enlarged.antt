@@ -15,7 +15,7 @@ use Rattle.ieee.specs.Grid.{On, Twin}
 use Rattle.ieee.proofs.Grid.{weaken, scale-on}
 use Rattle.ieee.proofs.Bounds.{on-bounded, all-bounded→within}
 use Rattle.command.specs.declared.Refusal.the-variants.{Unsupported}
-use Rattle.command.specs.Outcomes.{refused, accepted, mapped, Check, checked}
+use Rattle.command.specs.Outcomes.{Outcome, accepted, mapped, Check, checked}
 use Rattle.command.specs.Enlarged.{Twins, DrawingTwin}
 use Rattle.command.proofs.Enlarged.{twins-weaken, drawing-refused, drawing-accepted, drawing-checked}
 use Rattle.path.specs.Path.{pathCommands}
@@ -79,24 +79,29 @@ module _ (k : ℕ) (K : k ≤ 6) (closed count : ℕ) (v v' : List Float) (same 
       drawing-accepted (list-twins k K closed count v v' (λ i h. twins i h (omega arith)))))
 
 -- ---- a row with listed entries
+-- what holds of both answers to a test holds of the choice between them
+either : {A B : Type 0} (R : A → B → Type 0) (b : Bool) {x y : A} {x' y' : B} → (b ≡ true → R x x') → (b ≡ false → R y y') → R (cond b x y) (cond b x' y')
+either R true f g = f refl
+either R false f g = g refl
+
 -- a shape whose numbers stand at the start of v, kind by kind
 shape-twins : (k : ℕ) → k ≤ 6 → (row : ItemRow) (v v' : List Float) → ((i : ℕ) → i < entriesOf row → Twin k 10 13 (getD v i nan) (getD v' i nan))
     → DrawingTwin k 35 16 (shapeDrawn row v) (shapeDrawn row v')
 unfolding shapeDrawn itemShape shapeCommands entriesOf
-shape-twins k K row v v' twins = go (isPath row) (isRect row) twins
+shape-twins k K row v v' twins =
+    either Alike (isPath row) (λ p. drawing-accepted (list-twins k K (row .mark) (row .count) v v' (λ i h. twins i (rw p h))))
+    (λ p. either Alike (isRect row) (λ r. rectangle (λ i h. twins i (rw (p, r) h)))
+    (λ r. drawing-refused Unsupported))
   where
-    go : (a b : Bool) → ((i : ℕ) → i < cond a (6 * row .count) (cond b 5 0) → Twin k 10 13 (getD v i nan) (getD v' i nan))
-        → DrawingTwin k 35 16
-        (mapped (λ (s : Shape). shapeCommands s v)
-        (cond a (accepted (Path (row .mark) (row .count))) (cond b (accepted (Rect (cornerRadius (getD v 2 nan) (getD v 3 nan) (getD v 4 nan)))) (refused Unsupported))))
-        (mapped (λ (s : Shape). shapeCommands s v')
-        (cond a (accepted (Path (row .mark) (row .count))) (cond b (accepted (Rect (cornerRadius (getD v' 2 nan) (getD v' 3 nan) (getD v' 4 nan)))) (refused Unsupported))))
-    go true b at = drawing-accepted (list-twins k K (row .mark) (row .count) v v' at)
-    go false true at =
+    Alike : Outcome Shape → Outcome Shape → Type 0
+    Alike o o' = DrawingTwin k 35 16 (mapped (λ (s : Shape). shapeCommands s v) o) (mapped (λ (s : Shape). shapeCommands s v') o')
+
+    rectangle : ((i : ℕ) → i < 5 → Twin k 10 13 (getD v i nan) (getD v' i nan))
+        → Alike (accepted (Rect (cornerRadius (getD v 2 nan) (getD v 3 nan) (getD v 4 nan)))) (accepted (Rect (cornerRadius (getD v' 2 nan) (getD v' 3 nan) (getD v' 4 nan))))
+    rectangle at =
         drawing-accepted
         (rect-twins k K (getD v 0 nan) (getD v 1 nan) (getD v 2 nan) (getD v 3 nan) (getD v 4 nan) (getD v' 0 nan) (getD v' 1 nan) (getD v' 2 nan) (getD v' 3 nan) (getD v' 4 nan)
         (at 0 (lit< tt)) (at 1 (lit< tt)) (at 2 (lit< tt)) (at 3 (lit< tt)) (at 4 (lit< tt)))
-    go false false at = drawing-refused Unsupported
 
 module _ (k : ℕ) (K : k ≤ 6) (row : ItemRow) (items items' : List Float) (same : length items' ≡ length items)
     (twins : (i : ℕ) → row .place ≤ i → i < row .place + entriesOf row → i < length items → Twin k 10 13 (getD items i nan) (getD items' i nan)) where

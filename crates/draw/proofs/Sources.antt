@@ -14,8 +14,8 @@ use Rattle.ieee.specs.Limit.{allWithin}
 use Rattle.command.specs.declared.PathCommand.{PathCommand}
 use Rattle.command.specs.declared.Refusal.the-variants.{Unsupported}
 use Rattle.command.specs.Commands.{numbersOf}
-use Rattle.command.specs.Outcomes.{Outcome, refused, accepted, mapped, listOf}
-use Rattle.command.proofs.Outcomes.{AllPass, refused-accepted, checks-passed}
+use Rattle.command.specs.Outcomes.{Outcome, refused, accepted, mapped, listOf, AllPass}
+use Rattle.command.proofs.Outcomes.{refused-accepted, checks-passed}
 use Rattle.command.proofs.Passes.{numbers-few}
 use Rattle.path.specs.Path.{pathCommands}
 use Rattle.path.proofs.Paths.{pathCommands-few}

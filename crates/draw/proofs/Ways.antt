@@ -96,8 +96,11 @@ module _ (row : ItemRow) where
   pub path-drawn : row .kind ≡ 1 → false ≡ isHeldBack row
   path-drawn h = rw (eq-eqb (row .kind) 1 h)
 
-  pub others-held : (row .kind ≡ 1 → ⊥) → not (eqb (row .kind) 2) ≡ isHeldBack row
-  others-held h = rw (ne-eqb (row .kind) 1 h)
+  pub rect-drawn : row .kind ≡ 2 → false ≡ isHeldBack row
+  rect-drawn h = rw h
+
+  pub others-held : (row .kind ≡ 1 → ⊥) → (row .kind ≡ 2 → ⊥) → true ≡ isHeldBack row
+  others-held a b = rw (ne-eqb (row .kind) 1 a, ne-eqb (row .kind) 2 b)
 
   module _ (items : List Float) (some : hasNoVertices row ≡ false) (few : row .count ≤ 1024) (inside : row .place + entriesOf row ≤ length items) where
     abbrev from : List Float
@@ -135,7 +138,7 @@ module _ (row : ItemRow) where
     unfolding shapeDrawn itemShape outcomeOf
     shape-none a b = rw (ne-eqb (row .kind) 1 a, ne-eqb (row .kind) 2 b)
 
-pub ruleset kinds = (no-vertices-path, no-vertices-other, path-drawn, others-held, shape-path, path-fits, five-inside, shape-rect, rect-fits, shape-none)
+pub ruleset kinds = (no-vertices-path, no-vertices-other, path-drawn, rect-drawn, others-held, shape-path, path-fits, five-inside, shape-rect, rect-fits, shape-none)
 
 -- ---- check_source
 module _ (row : ItemRow) (items : List Float) where

@@ -66,7 +66,12 @@ fn has_no_vertices(row: ItemRow) -> bool
 fn is_held_back(row: ItemRow) -> bool
     ensures { λ r. ⌜ r ≡ isHeldBack row ⌝ }
 {
-    if row.kind == 1 { false } else { row.kind != 2 }
+    let kind = row.kind;
+    match kind {
+        1 => false,
+        2 => false,
+        _ => true,
+    }
 }
 
 // What a row whose numbers are there and within the limit says is to be drawn, or why it cannot be.

@@ -16,9 +16,9 @@ use Rattle.command.specs.declared.PathCommand.{PathCommand}
 use Rattle.command.specs.declared.Refusal.{Refusal}
 use Rattle.command.specs.declared.Refusal.the-variants.{NoSuchCopy, NotFinite}
 use Rattle.command.specs.Commands.{codesOf, numbersOf}
-use Rattle.command.specs.Outcomes.{Outcome, refused, accepted, mapped, listOf, _gives_, checked}
+use Rattle.command.specs.Outcomes.{Outcome, refused, accepted, mapped, listOf, _gives_, checked, AllPass}
 use Rattle.command.specs.Enlarged.{AllOn, Twins, DrawingTwin, enlarged}
-use Rattle.command.proofs.Outcomes.{AllPass, checks-hold}
+use Rattle.command.proofs.Outcomes.{checks-hold}
 use Rattle.command.proofs.Enlarged.{all-weaken}
 use Rattle.item.specs.Rows.{itemRow}
 use Rattle.draw.specs.Paths.{drawPath}

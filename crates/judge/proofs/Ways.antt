@@ -24,7 +24,7 @@ use Rattle.reader.specs.Read.{sizeOfCode, readCommand, readOf, readFrom}
 use Rattle.reader.proofs.Commands.{size-most, Accepted, accepted-read}
 use Rattle.judge.specs.declared.Judged.{Judged}
 use Rattle.judge.specs.declared.Judged.the-variants.{Fault, Sound}
-use Rattle.judge.specs.Lists.{inFront, readList, judgeList, judgedOf, verdict, placeOf, askedFor, judgeCommand, findCommand, commandFault, commandPart}
+use Rattle.judge.specs.Lists.{inFront, readList, judgeList, judgedOf, withoutCommands, placeOf, askedFor, judgeCommand, findCommand, commandFault, commandPart}
 use Rattle.judge.proofs.Walk.{Left, walk-start, list-many, walk-refused, walk-next, walk-over, walk-end}
 
 -- ---- judge: a walk with nothing to carry
@@ -32,7 +32,7 @@ abbrev pub nothing : Unit {0} → List PathCommand → Unit {0}
 nothing s cs = tt
 
 module _ (codes : List ℕ) (numbers : List Float) where
-  pub judge-many : 262144 < length codes → refused TooMany ≡ verdict (judgeList codes numbers)
+  pub judge-many : 262144 < length codes → refused TooMany ≡ withoutCommands (judgeList codes numbers)
   judge-many a = list-many nothing codes numbers tt a
 
   pub judge-start : Left nothing codes numbers tt tt 0 0
@@ -43,17 +43,17 @@ module _ (codes : List ℕ) (numbers : List Float) where
     judge-inside = left .inside
 
     module _ (h : i < length codes) (r : Read) (r-is : readOf r ≡ readFrom (getD codes i 0) numbers place) where
-      pub judge-refused : length codes ≤ 262144 → (refusal : Refusal) → r ≡ read.Refused refusal → refused refusal ≡ verdict (judgeList codes numbers)
+      pub judge-refused : length codes ≤ 262144 → (refusal : Refusal) → r ≡ read.Refused refusal → refused refusal ≡ withoutCommands (judgeList codes numbers)
       judge-refused few refusal e = walk-refused nothing codes numbers tt tt i place left h r r-is few refusal e
 
       pub judge-next : (p : PathCommand) (next : ℕ) → r ≡ read.Command p next → Left nothing codes numbers tt tt (i + 1) next
       judge-next p next e = walk-next nothing codes numbers tt tt i place left h r r-is p next e tt (λ cs. refl) (i + 1) refl
 
     module _ (few : length codes ≤ 262144) (h : length codes ≤ i) where
-      pub judge-over : place < length numbers → refused OutOfBounds ≡ verdict (judgeList codes numbers)
+      pub judge-over : place < length numbers → refused OutOfBounds ≡ withoutCommands (judgeList codes numbers)
       judge-over a = walk-over nothing codes numbers tt tt i place left few h a
 
-      pub judge-sound : length numbers ≤ place → accepted tt ≡ verdict (judgeList codes numbers)
+      pub judge-sound : length numbers ≤ place → accepted tt ≡ withoutCommands (judgeList codes numbers)
       judge-sound a = walk-end nothing codes numbers tt tt i place left few h a
 
 pub ruleset judging = (judge-many, judge-start, judge-inside, judge-refused, judge-next, judge-over, judge-sound)
@@ -61,32 +61,32 @@ pub ruleset judging = (judge-many, judge-start, judge-inside, judge-refused, jud
 -- ---- judge_command
 -- `askedFor` reads no command of the list
 asked : (k count : ℕ) (o : Outcome (List PathCommand))
-    → andThen (verdict o) (λ (u : Unit {0}). checked ((not (ltb k count) gives OutOfBounds) ∷ []) (accepted tt)) ≡ verdict (andThen o (askedFor k count))
+    → andThen (withoutCommands o) (λ (u : Unit {0}). checked ((not (ltb k count) gives OutOfBounds) ∷ []) (accepted tt)) ≡ withoutCommands (andThen o (askedFor k count))
 unfolding askedFor
 asked k count (refused r) = refl
 asked k count (accepted cs) = go (ltb k count)
   where
-    go : (b : Bool) → checked ((not b gives OutOfBounds) ∷ []) (accepted (tt {0})) ≡ verdict (checked ((not b gives OutOfBounds) ∷ []) (accepted cs))
+    go : (b : Bool) → checked ((not b gives OutOfBounds) ∷ []) (accepted (tt {0})) ≡ withoutCommands (checked ((not b gives OutOfBounds) ∷ []) (accepted cs))
     go true = refl
     go false = refl
 
-module _ (codes : List ℕ) (numbers : List Float) (k : ℕ) (j : Judged) (j-is : judgedOf j ≡ verdict (judgeList codes numbers)) where
+module _ (codes : List ℕ) (numbers : List Float) (k : ℕ) (j : Judged) (j-is : judgedOf j ≡ withoutCommands (judgeList codes numbers)) where
   abbrev asks : Outcome (Unit {0}) → Outcome (Unit {0})
   asks o = andThen o (λ (u : Unit {0}). checked ((not (ltb k (length codes)) gives OutOfBounds) ∷ []) (accepted tt))
 
-  pub asked-fault : (r : Refusal) → j ≡ Fault r → refused r ≡ verdict (judgeCommand codes numbers k)
+  pub asked-fault : (r : Refusal) → j ≡ Fault r → refused r ≡ withoutCommands (judgeCommand codes numbers k)
   unfolding judgeCommand
   asked-fault r e = ap (λ (x : Judged). asks (judgedOf x)) (sym e) ∙ ap asks j-is ∙ asked k (length codes) (judgeList codes numbers)
 
   module _ (e : j ≡ Sound) where
-    sound : asks (accepted tt) ≡ verdict (judgeCommand codes numbers k)
+    sound : asks (accepted tt) ≡ withoutCommands (judgeCommand codes numbers k)
     unfolding judgeCommand
     sound = ap (λ (x : Judged). asks (judgedOf x)) (sym e) ∙ ap asks j-is ∙ asked k (length codes) (judgeList codes numbers)
 
-    pub asked-sound : k < length codes → accepted tt ≡ verdict (judgeCommand codes numbers k)
+    pub asked-sound : k < length codes → accepted tt ≡ withoutCommands (judgeCommand codes numbers k)
     asked-sound h = rw (lt-ltb k (length codes) h) at sound
 
-    pub asked-missing : length codes ≤ k → refused OutOfBounds ≡ verdict (judgeCommand codes numbers k)
+    pub asked-missing : length codes ≤ k → refused OutOfBounds ≡ withoutCommands (judgeCommand codes numbers k)
     asked-missing h = rw (le-ltb k (length codes) h) at sound
 
 pub ruleset asking = (asked-fault, asked-sound, asked-missing)
@@ -199,12 +199,12 @@ answer-of codes numbers k ps e = go (judgeList codes numbers) refl e
 abbrev found : List ℕ → ℕ → List PathCommand → ℕ × ℕ
 found codes k cs = (placeOf k codes, sizeOfCode (getD codes k 3))
 
-module _ (codes : List ℕ) (numbers : List Float) (k : ℕ) (j : Judged) (j-is : judgedOf j ≡ verdict (judgeCommand codes numbers k)) where
+module _ (codes : List ℕ) (numbers : List Float) (k : ℕ) (j : Judged) (j-is : judgedOf j ≡ withoutCommands (judgeCommand codes numbers k)) where
   pub find-refused : (r : Refusal) → j ≡ Fault r → refused r ≡ findCommand codes numbers k
   unfolding findCommand
   find-refused r e = go (judgeCommand codes numbers k) (ap judgedOf (sym e) ∙ j-is)
     where
-      go : (o : Outcome (List PathCommand)) → refused r ≡ verdict o → refused r ≡ mapped (found codes k) o
+      go : (o : Outcome (List PathCommand)) → refused r ≡ withoutCommands o → refused r ≡ mapped (found codes k) o
       go (refused q) e = cc
       go (accepted cs) e = refused-accepted r tt e
 
@@ -212,7 +212,7 @@ module _ (codes : List ℕ) (numbers : List Float) (k : ℕ) (j : Judged) (j-is 
     answer : Answer codes numbers k
     answer = go (judgeCommand codes numbers k) refl (ap judgedOf (sym e) ∙ j-is)
       where
-        go : (o : Outcome (List PathCommand)) → judgeCommand codes numbers k ≡ o → accepted tt ≡ verdict o → Answer codes numbers k
+        go : (o : Outcome (List PathCommand)) → judgeCommand codes numbers k ≡ o → accepted tt ≡ withoutCommands o → Answer codes numbers k
         go (refused q) p e = refused-accepted q tt (sym e)
         go (accepted cs) p e = answer-of codes numbers k cs p
 

@@ -32,8 +32,8 @@ abbrev pub judgedOf : Judged → Outcome (Unit {0})
 judgedOf (Fault r) = refused r
 judgedOf Sound = accepted tt
 
-abbrev pub verdict : Outcome (List PathCommand) → Outcome (Unit {0})
-verdict o = mapped (λ (cs : List PathCommand). tt) o
+abbrev pub withoutCommands : Outcome (List PathCommand) → Outcome (Unit {0})
+withoutCommands o = mapped (λ (cs : List PathCommand). tt) o
 
 -- ---- one command of it
 

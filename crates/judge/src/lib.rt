@@ -6,7 +6,7 @@ ghost use mathlib.Core.Path.{_≡_};
 ghost use Prim.Native.Nat.{_≤_};
 ghost use lib.ListN.{length};
 ghost use Rattle.command.specs.Outcomes.{countsOf};
-ghost use Rattle.judge.specs.Lists.{judgeList, judgedOf, verdict, placeOf, judgeCommand, findCommand, commandFault, commandPart};
+ghost use Rattle.judge.specs.Lists.{judgeList, judgedOf, withoutCommands, placeOf, judgeCommand, findCommand, commandFault, commandPart};
 
 // What judging a command list finds: the first refusal, or none.
 pub enum Judged {
@@ -16,7 +16,7 @@ pub enum Judged {
 
 // The first fault of a command list.
 pub fn judge(codes: &[u8], numbers: &[f32]) -> Judged
-    ensures { λ r. ⌜ judgedOf r ≡ verdict (judgeList (now (codes .entry)) (now (numbers .entry))) ⌝ }
+    ensures { λ r. ⌜ judgedOf r ≡ withoutCommands (judgeList (now (codes .entry)) (now (numbers .entry))) ⌝ }
 {
     if codes.len() > 262144 {
         return Judged::Fault(Refusal::TooMany);
@@ -43,7 +43,7 @@ pub fn judge(codes: &[u8], numbers: &[f32]) -> Judged
 
 // The first fault of a command list, or a missing command k.
 fn judge_command(codes: &[u8], numbers: &[f32], k: usize) -> Judged
-    ensures { λ r. ⌜ judgedOf r ≡ verdict (judgeCommand (now (codes .entry)) (now (numbers .entry)) k) ⌝ }
+    ensures { λ r. ⌜ judgedOf r ≡ withoutCommands (judgeCommand (now (codes .entry)) (now (numbers .entry)) k) ⌝ }
 {
     match judge(codes, numbers) {
         Judged::Fault(refusal) => Judged::Fault(refusal),

@@ -4,8 +4,8 @@ use Rattle.copies.proofs.Ways.{calls}
 use Rattle.copies.proofs.copy_transform.Statement.{statement}
 use Rattle.copies.proofs.copy_transform.Tie as tie
 
-verdict-of-requires : tie.Need-verdict-of-requires
-verdict-of-requires c κs = search (needs, calls)
+check-repeater-requires : tie.Need-check-repeater-requires
+check-repeater-requires c κs = search (needs, calls)
 
 enum-known-refusal : tie.Need-enum-known-refusal
 enum-known-refusal c = search (needs, calls)
@@ -29,7 +29,7 @@ pub copy-transform-spec : {M : Type 1} → statement M
 copy-transform-spec =
     tie.close
     (tie.spec
-    verdict-of-requires
+    check-repeater-requires
     enum-known-refusal
     enum-told
     write-sound-requires

@@ -10,5 +10,8 @@ returns c = search (needs, kinds)
 returns-2 : tie.Need-returns-2
 returns-2 c = search (needs, kinds)
 
+returns-3 : tie.Need-returns-3
+returns-3 c = search (needs, kinds)
+
 pub is-held-back-spec : {M : Type 1} → statement M
-is-held-back-spec = tie.close (tie.spec returns returns-2)
+is-held-back-spec = tie.close (tie.spec returns returns-2 returns-3)

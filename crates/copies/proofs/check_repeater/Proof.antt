@@ -1,8 +1,8 @@
--- `copies::verdict_of` meets its contract. Assumes nothing.
+-- `copies::check_repeater` meets its contract. Assumes nothing.
 use borrow.Author.Needs.{needs}
 use Rattle.copies.proofs.Ways.{verdicts}
-use Rattle.copies.proofs.verdict_of.Statement.{statement}
-use Rattle.copies.proofs.verdict_of.Tie as tie
+use Rattle.copies.proofs.check_repeater.Statement.{statement}
+use Rattle.copies.proofs.check_repeater.Tie as tie
 
 has-too-many-requires : tie.Need-has-too-many-requires
 has-too-many-requires c κs = search (needs, verdicts)
@@ -22,7 +22,7 @@ returns-3 c = search (needs, verdicts)
 returns-4 : tie.Need-returns-4
 returns-4 c = search (needs, verdicts)
 
-pub verdict-of-spec : {M : Type 1} → statement M
-verdict-of-spec =
+pub check-repeater-spec : {M : Type 1} → statement M
+check-repeater-spec =
     tie.close
     (tie.spec has-too-many-requires returns is-within-requires returns-2 returns-3 returns-4)
