@@ -1,7 +1,7 @@
 -- Commands and outcomes whose every number is multiplied by a power of two. Definitions only.
 use Prim.Native.Nat.{ℕ}
 use mathlib.Core.Path.{_≡_}
-use mathlib.Core.List.{List, [], _∷_, map}
+use mathlib.Core.List.{List, map}
 use lib.Ieee.{Float}
 use Rattle.ieee.specs.Each.{Each}
 use Rattle.ieee.specs.Grid.{scale, On}

@@ -23,7 +23,7 @@ use Rattle.path.proofs.Enlarged.{path-twins}
 use Rattle.rect.specs.Rect.{cornerRadius}
 use Rattle.rect.proofs.Enlarged.{rect-twins}
 use Rattle.shape.specs.declared.Shape.{Shape}
-use Rattle.shape.specs.declared.Shape.the-variants.{Path, Rect}
+use Rattle.shape.specs.declared.Shape.the-variants.{Rect}
 use Rattle.shape.specs.Shape.{shapeCommands}
 use Rattle.item.specs.declared.ItemRow.{ItemRow}
 use Rattle.item.specs.Rows.{itemRow, isPath, isRect, entriesOf}

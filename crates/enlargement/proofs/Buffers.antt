@@ -9,7 +9,7 @@ use lib.ListN.{length, length-map}
 use Rattle.ieee.specs.Grid.{scale}
 use Rattle.command.specs.declared.PathCommand.{PathCommand}
 use Rattle.command.specs.declared.Refusal.the-variants.{BufferTooSmall}
-use Rattle.command.specs.Commands.{codesOf, numbersOf}
+use Rattle.command.specs.Commands.{numbersOf}
 use Rattle.command.specs.Outcomes.{Outcome, refused, accepted, mapped}
 use Rattle.command.specs.Buffers.{fitted, inBuffer, inBuffers}
 use Rattle.command.specs.Enlarged.{enlarged}

@@ -2,7 +2,7 @@
 -- Nothing is asked of the numbers but that they are finite and bounded. The test `within` against a whole number is just such a bound. Assumes nothing.
 use mathlib.Core.Path.{_≡_, refl, sym, ap, _∙_, subst}
 use mathlib.Core.Bool.{Bool, true, false, not, cond, and-eq-true-iff}
-use mathlib.Core.List.{List, [], _∷_, _++_}
+use mathlib.Core.List.{List, [], _∷_}
 use Prim.Native.Nat.{ℕ, zero, suc, _+_, _*_, _^_, _≤_, _<_, zero-le}
 use native.Mathlib.Nat.{le-trans, le-of-eq, le-of-suc-le-suc, not-suc-le-zero, lt-of-le-of-lt, lt-of-lt-of-le, zero-lt-suc, suc-add, zero-add, zero-mul, mul-one, add-mul, mul-comm, mul-assoc, mul-right-comm, mul-le-mul-left, mul-le-mul-right, le-of-mul-le-mul-right, mul-pos, div-mul-le-self, pow-succ'}
 use native.Mathlib.Omega.{arith}

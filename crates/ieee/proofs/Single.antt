@@ -1,7 +1,6 @@
 -- An operation of binary32 answers an f32. Assumes nothing.
 use Prim.Native.Nat.{ℕ, _+_, _-_, _*_}
 use mathlib.Core.Bool.{Bool, Bool·beq, cond, _&&_}
-use mathlib.Core.List.{List, [], _∷_, _++_}
 use lib.Dec.{eqb, ltb}
 use lib.Ieee.{Float, nan, inf, fin, binary32, fits, up, down, unlike, round, sum, ofBits}
 use lib.Ieee.Fits.{round-fits, cond-fits, nan-fits, inf-fits, add-fits, sub-fits}

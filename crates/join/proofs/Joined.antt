@@ -1,17 +1,16 @@
 -- Which rows a merge joins: source rows before the merge row, so visible ones of the first n at depth 0, and at most 255. Assumes nothing.
 use mathlib.Core.Path.{_≡_, refl, sym, ap, _∙_}
-use mathlib.Core.Bool.{Bool, true, false, cond, not, _&&_}
+use mathlib.Core.Bool.{Bool, true, false, cond, _&&_}
 use mathlib.Core.List.{List, [], _∷_}
-use Prim.Native.Nat.{ℕ, zero, suc, _+_, _*_, _≤_, _<_}
+use Prim.Native.Nat.{ℕ, zero, suc, _+_, _≤_, _<_}
 use native.Mathlib.Omega.{arith}
-use lib.Dec.{eqb, leb, ltb}
+use lib.Dec.{leb}
 use lib.ListN.{length, getD, take, drop}
-use borrow.Author.Tests.{ltb-false}
 use Rattle.command.specs.declared.Refusal.the-variants.{NotMergeable}
-use Rattle.command.specs.Outcomes.{Outcome, refused, accepted}
+use Rattle.command.specs.Outcomes.{refused, accepted}
 use Rattle.item.specs.declared.ItemRow.{ItemRow}
-use Rattle.item.specs.Rows.{itemRow, isListed}
-use Rattle.nest.specs.Lists.{rowsFrom, eachRow, isShallow, isNested}
+use Rattle.item.specs.Rows.{itemRow}
+use Rattle.nest.specs.Lists.{rowsFrom}
 use Rattle.merge.specs.declared.Scan.{Scan}
 use Rattle.merge.specs.declared.Scan.the-variants.{Nowhere, At}
 use Rattle.merge.specs.Flat.{isSourceRow, sourcesFrom, scanFrom, lateFrom}

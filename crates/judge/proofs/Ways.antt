@@ -1,7 +1,7 @@
 -- What each way out of a function of this crate owes, as the code meets it: a premise for each test and for each call's result.
 -- Assumes nothing.
 use mathlib.Core.Path.{_≡_, refl, sym, ap, _∙_}
-use mathlib.Core.Bool.{Bool, true, false, cond, not}
+use mathlib.Core.Bool.{Bool, true, false, not}
 use mathlib.Core.List.{List, [], _∷_}
 use Prim.Native.Nat.{ℕ, zero, suc, _+_, _-_, _*_, _≤_, _<_}
 use native.Mathlib.Nat.{add-sub-cancel-left}
@@ -21,7 +21,7 @@ use Rattle.command.proofs.Outcomes.{refused-accepted, checks-passed}
 use Rattle.reader.specs.declared.Read.{Read}
 use Rattle.reader.specs.declared.Read.the-variants as read
 use Rattle.reader.specs.Read.{sizeOfCode, readCommand, readOf, readFrom}
-use Rattle.reader.proofs.Commands.{size-most, Accepted, accepted-read}
+use Rattle.reader.proofs.Commands.{size-most, accepted-read}
 use Rattle.judge.specs.declared.Judged.{Judged}
 use Rattle.judge.specs.declared.Judged.the-variants.{Fault, Sound}
 use Rattle.judge.specs.Lists.{inFront, readList, judgeList, judgedOf, withoutCommands, placeOf, askedFor, judgeCommand, findCommand, commandFault, commandPart}
