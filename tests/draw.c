@@ -262,6 +262,63 @@ static void test_rectangles(void)
     item_drawn("uneven sides", row, uneven, 5, triangle_codes, 5, uneven_numbers, 8);
 }
 
+/* The f32 nearest to 0.5522848. */
+#define KAPPA 0.5522848f
+
+static const uint8_t ellipse_codes[] = {
+    JENGAFIR_MOVE, JENGAFIR_CUBIC, JENGAFIR_CUBIC, JENGAFIR_CUBIC, JENGAFIR_CUBIC, JENGAFIR_CLOSE,
+};
+
+/* Ellipses worked by hand: from the top by right, bottom and left. */
+static void test_ellipses(void)
+{
+    static const uint32_t row[] = {JENGAFIR_EL, 0, 0, 0, 0, 0};
+    static const uint32_t hidden[] = {JENGAFIR_EL, 1, 4000000000, 0, 1, 0};
+    static const float two_by_four[] = {0, 0, 2, 4};
+    static const float two_by_four_numbers[] = {
+        0, -2,
+        KAPPA, -2, 1, -2 * KAPPA, 1, 0,
+        1, 2 * KAPPA, KAPPA, 2, 0, 2,
+        -KAPPA, 2, -1, 2 * KAPPA, -1, 0,
+        -1, -2 * KAPPA, -KAPPA, -2, 0, -2,
+    };
+    /* The same, the other way round in size, between numbers that are not read. */
+    static const float turned_about[] = {NAN, 0, 0, -2, -4, INFINITY};
+    /* A side of 0 is drawn, flat: 5.4477152 and 6.5522848 are 6 less and plus 0.5522848. */
+    static const float flat[] = {5, 6, 0, -2};
+    static const float flat_numbers[] = {
+        5, 5,
+        5, 5, 5, 5.4477152f, 5, 6,
+        5, 6.5522848f, 5, 7, 5, 7,
+        5, 7, 5, 6.5522848f, 5, 6,
+        5, 5.4477152f, 5, 5, 5, 5,
+    };
+    /* An end keeps the centre's own sign, where a sum with a tangent of 0 loses it. */
+    static const float point[] = {-0.0f, -0.0f, 0, -0.0f};
+    static const float point_numbers[] = {
+        -0.0f, -0.0f,
+        0, -0.0f, 0, -0.0f, 0, -0.0f,
+        0, 0, 0, 0, -0.0f, 0,
+        -0.0f, 0, -0.0f, 0, -0.0f, -0.0f,
+        -0.0f, -0.0f, -0.0f, -0.0f, -0.0f, -0.0f,
+    };
+    /* 13 units of 2^-149 have the half 6 and the tangent 3, and -6 and 7 on either side of the centre. */
+    static const float tiny[] = {0, 0, 0x1ap-150f, 0};
+    static const float tiny_numbers[] = {
+        0, 0,
+        0x3p-149f, 0, 0x7p-149f, 0, 0x7p-149f, 0,
+        0x7p-149f, 0, 0x3p-149f, 0, 0, 0,
+        -0x3p-149f, 0, -0x6p-149f, 0, -0x6p-149f, 0,
+        -0x6p-149f, 0, -0x3p-149f, 0, 0, 0,
+    };
+
+    item_drawn("ellipse 2 by 4", row, two_by_four, 4, ellipse_codes, 6, two_by_four_numbers, 26);
+    item_drawn("hidden ellipse -2 by -4", hidden, turned_about, 6, ellipse_codes, 6, two_by_four_numbers, 26);
+    item_drawn("flat ellipse", row, flat, 4, ellipse_codes, 6, flat_numbers, 26);
+    item_drawn("ellipse without size", row, point, 4, ellipse_codes, 6, point_numbers, 26);
+    item_drawn("ellipse of 13 units", row, tiny, 4, ellipse_codes, 6, tiny_numbers, 26);
+}
+
 typedef struct {
     const char *call;
     uint32_t row[6];
@@ -277,16 +334,23 @@ static const RefusedRow refused_rows[] = {
     {"mark 2 of a path", {JENGAFIR_SH, 0, 0, 2, 11, 3}, JENGAFIR_UNLISTED},
     {"mark 1 of a rectangle", {JENGAFIR_RC, 0, 0, 1, 0, 0}, JENGAFIR_UNLISTED},
     {"count 1 of a rectangle", {JENGAFIR_RC, 0, 0, 0, 0, 1}, JENGAFIR_UNLISTED},
-    {"ellipse", {JENGAFIR_EL, 0, 0, 0, 0, 0}, JENGAFIR_UNSUPPORTED},
+    {"mark 1 of an ellipse", {JENGAFIR_EL, 0, 0, 1, 1, 0}, JENGAFIR_UNLISTED},
+    {"count 4 of an ellipse", {JENGAFIR_EL, 0, 0, 0, 1, 4}, JENGAFIR_UNLISTED},
+    {"hidden 2 of an ellipse", {JENGAFIR_EL, 2, 0, 0, 1, 0}, JENGAFIR_UNLISTED},
     {"polystar", {JENGAFIR_SR, 1, 0, 0, 99, 0}, JENGAFIR_UNSUPPORTED},
     {"no vertices", {JENGAFIR_SH, 0, 0, 1, 11, 0}, JENGAFIR_EMPTY},
     {"1,025 vertices", {JENGAFIR_SH, 0, 0, 1, 11, 1025}, JENGAFIR_TOO_MANY},
     {"path past the end", {JENGAFIR_SH, 0, 0, 1, 13, 3}, JENGAFIR_OUT_OF_BOUNDS},
     {"rectangle past the end", {JENGAFIR_RC, 0, 0, 0, ITEMS - 4, 0}, JENGAFIR_OUT_OF_BOUNDS},
+    {"ellipse past the end", {JENGAFIR_EL, 0, 0, 0, ITEMS - 3, 0}, JENGAFIR_OUT_OF_BOUNDS},
+    {"ellipse at the end", {JENGAFIR_EL, 0, 0, 0, ITEMS, 0}, JENGAFIR_OUT_OF_BOUNDS},
+    {"ellipse far off", {JENGAFIR_EL, 0, 0, 0, UINT32_MAX, 0}, JENGAFIR_OUT_OF_BOUNDS},
     {"a place far off", {JENGAFIR_RC, 0, 0, 0, UINT32_MAX, 0}, JENGAFIR_OUT_OF_BOUNDS},
     {"a NaN", {JENGAFIR_RC, 0, 0, 0, ITEMS - 5, 0}, JENGAFIR_OUT_OF_RANGE},
-    {"4 before 5", {JENGAFIR_EL, 0, 0, 1, 0, 0}, JENGAFIR_UNLISTED},
-    {"5 before 12", {JENGAFIR_EL, 0, 0, 0, 99, 0}, JENGAFIR_UNSUPPORTED},
+    {"a NaN of an ellipse", {JENGAFIR_EL, 0, 0, 0, ITEMS - 4, 0}, JENGAFIR_OUT_OF_RANGE},
+    {"4 before 12 of an ellipse", {JENGAFIR_EL, 0, 0, 1, 99, 0}, JENGAFIR_UNLISTED},
+    {"4 before 5", {JENGAFIR_SR, 0, 0, 1, 0, 0}, JENGAFIR_UNLISTED},
+    {"5 before 12", {JENGAFIR_SR, 0, 0, 0, 99, 0}, JENGAFIR_UNSUPPORTED},
     {"4 before 1", {JENGAFIR_SH, 2, 0, 1, 11, 0}, JENGAFIR_UNLISTED},
     {"4 before 1, by the mark", {JENGAFIR_SH, 0, 0, 2, 11, 0}, JENGAFIR_UNLISTED},
     {"1 before 12", {JENGAFIR_SH, 0, 0, 1, 99, 0}, JENGAFIR_EMPTY},
@@ -388,6 +452,7 @@ int main(void)
     test_path_refusals();
     test_items();
     test_rectangles();
+    test_ellipses();
     test_row_refusals();
     test_estimates();
     test_estimated_room();

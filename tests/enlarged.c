@@ -62,13 +62,15 @@ static const float vertices[] = {
     640,      480.0625f, -64,     1,      -0.0f,       0,
 };
 
-/* A rectangle, a round one, and the vertices as a path. */
+/* A rectangle, a round one, vertices as a path, and two ellipses, of which one is flat and begins at -0. */
 static const float items[] = {
     -8.5f, 16, 1023.5f,        -77.25f, 0,
     12,    34, 56.0f / 1024,   78,      5.5f,
     0,     0,  8192,           0,       0,    0,
     16,    0,  0,              0,       -3,   2,
     0,     16, 1.0f / 1024,    -2,      0,    0,
+    640,   480.0625f, 8192,    -12.5f,
+    -0.0f, 8191.0f / 1024, 0,  5.0f / 1024,
 };
 
 static const uint32_t rows[] = {
@@ -76,6 +78,8 @@ static const uint32_t rows[] = {
     JENGAFIR_RC, 1, 0, 0, 99, 0,
     JENGAFIR_RC, 0, 0, 0, 5,  0,
     JENGAFIR_SH, 0, 0, 1, 10, 3,
+    JENGAFIR_EL, 0, 0, 0, 28, 0,
+    JENGAFIR_EL, 0, 0, 0, 32, 0,
     JENGAFIR_MM, 0, 0, 1, 0,  0,
     JENGAFIR_TM, 0, 0, 0, 0,  0,
 };

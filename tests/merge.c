@@ -37,6 +37,7 @@ static const float items[] = {
 #define WIDE {JENGAFIR_RC, 0, 0, 0, WIDE_PLACE, 0}           /* W */
 #define TRIANGLE {JENGAFIR_SH, 0, 0, 1, TRIANGLE_PLACE, 3}   /* T */
 #define OPEN {JENGAFIR_SH, 0, 0, 0, TRIANGLE_PLACE, 3}       /* O */
+#define ROUND {JENGAFIR_EL, 0, 0, 0, SQUARE_PLACE, 0}        /* R, the ellipse in the square */
 
 /* Rows of a kind, which is not one of sh and mm or has mark 0, visible or hidden, at a depth. */
 #define ROW(kind) {JENGAFIR_##kind, 0, 0, 0, 0, 0}
@@ -45,6 +46,9 @@ static const float items[] = {
 #define HIDDEN_IN(depth, kind) {JENGAFIR_##kind, 1, depth, 0, 0, 0}
 #define MERGE {JENGAFIR_MM, 0, 0, 1, 0, 0}
 #define MODE(mode) {JENGAFIR_MM, 0, 0, mode, 0, 0}
+
+/* The f32 nearest to 0.5522848. */
+#define KAPPA 0.5522848f
 
 #define MOST_ROWS 12
 
@@ -75,12 +79,22 @@ static void join(const char *letters)
     static const float square[] = {-1, -1, 1, -1, 1, 1, -1, 1};
     static const float wide[] = {8, -1, 12, -1, 12, 1, 8, 1};
     static const float triangle[] = {0, 0, 3, 0, 3, 4, 0, 0};
+    static const uint8_t ellipse_codes[] = {JENGAFIR_MOVE,  JENGAFIR_CUBIC, JENGAFIR_CUBIC,
+                                            JENGAFIR_CUBIC, JENGAFIR_CUBIC, JENGAFIR_CLOSE};
+    static const float ellipse[] = {
+        0, -1,
+        KAPPA, -1, 1, -KAPPA, 1, 0,
+        1, KAPPA, KAPPA, 1, 0, 1,
+        -KAPPA, 1, -1, KAPPA, -1, 0,
+        -1, -KAPPA, -KAPPA, -1, 0, -1,
+    };
     joined_code_count = joined_number_count = 0;
     for (; *letters != '\0'; letters++)
         switch (*letters) {
         case 'S': append(closed, 5, square, 8); break;
         case 'W': append(closed, 5, wide, 8); break;
         case 'T': append(closed, 5, triangle, 8); break;
+        case 'R': append(ellipse_codes, 6, ellipse, 26); break;
         default: append(closed, 3, triangle, 6); break;
         }
 }
@@ -164,6 +178,8 @@ static const Case joining[] = {
     {"the other way round", {WIDE, SQUARE, MERGE}, "WS", 0},
     {"one source twice", {TRIANGLE, TRIANGLE, MERGE}, "TT", 0},
     {"paths and rectangles", {OPEN, SQUARE, TRIANGLE, WIDE, MERGE}, "OSTW", 0},
+    {"two ellipses", {ROUND, ROUND, MERGE}, "RR", 0},
+    {"ellipses among others", {ROUND, SQUARE, HIDDEN(EL), TRIANGLE, ROUND, MERGE, ROW(FL)}, "RSTR", 0},
     {"transforms between", {ROW(TR), SQUARE, ROW(TR), ROW(TR), WIDE, ROW(TR), MERGE}, "SW", 0},
     {"hidden shapes", {HIDDEN(SH), SQUARE, HIDDEN(RC), HIDDEN(EL), WIDE, HIDDEN(SR), MERGE}, "SW", 0},
     {"hidden paint", {HIDDEN(FL), SQUARE, HIDDEN(GS), HIDDEN(TM), WIDE, HIDDEN(OTHER), MERGE}, "SW", 0},
@@ -265,7 +281,9 @@ static const Case refusing[] = {
     {"in a merge, hidden", {SQUARE, WIDE, MERGE, HIDDEN_IN(1, FL)}, NULL, JENGAFIR_BROKEN_NESTING},
     {"in a transform in a group", {SQUARE, WIDE, ROW(GR), IN(1, TR), IN(2, TR), MERGE}, NULL, JENGAFIR_BROKEN_NESTING},
 
-    {"an ellipse", {SQUARE, ROW(EL), MERGE}, NULL, JENGAFIR_UNSUPPORTED},
+    {"one ellipse", {ROUND, MERGE}, NULL, JENGAFIR_NOT_MERGEABLE},
+    {"an ellipse past the end", {SQUARE, {JENGAFIR_EL, 0, 0, 0, ITEMS - 3, 0}, MERGE}, NULL, JENGAFIR_OUT_OF_BOUNDS},
+    {"an ellipse with a NaN", {SQUARE, ROW(EL), MERGE}, NULL, JENGAFIR_OUT_OF_RANGE},
     {"a polystar", {ROW(SR), SQUARE, MERGE}, NULL, JENGAFIR_UNSUPPORTED},
     {"no vertices", {SQUARE, {JENGAFIR_SH, 0, 0, 1, TRIANGLE_PLACE, 0}, MERGE}, NULL, JENGAFIR_EMPTY},
     {"1,025 vertices", {SQUARE, {JENGAFIR_SH, 0, 0, 1, 0, 1025}, MERGE}, NULL, JENGAFIR_TOO_MANY},
@@ -279,7 +297,7 @@ static const Case refusing[] = {
 };
 
 /* The sources of a fault each. */
-#define NOT_DRAWN {JENGAFIR_EL, 0, 0, 0, UINT32_MAX, 0}
+#define NOT_DRAWN {JENGAFIR_SR, 0, 0, 0, UINT32_MAX, 0}
 #define BARE {JENGAFIR_SH, 0, 0, 1, UINT32_MAX, 0}
 #define LONG {JENGAFIR_SH, 0, 0, 1, UINT32_MAX, 1025}
 #define FAR_OFF {JENGAFIR_RC, 0, 0, 0, UINT32_MAX, 0}

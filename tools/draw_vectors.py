@@ -2,9 +2,9 @@
 """Makes the test vectors of drawing and of the room that is set aside for it.
 
 It writes crates/vectors_draw/stdin, one call a line, and crates/vectors_draw/stdout, what each call
-leaves behind. The expected values come from document 01's rules on exact numbers; the roundings are
-those of float_vectors.py, and no floating-point number is computed with here. The sample of the
-Rust's answers in oracle/samples follows them.
+leaves behind. The expected values come from document 01's rules on exact numbers, and for ellipses
+from document 02's; the roundings are those of float_vectors.py, and no floating-point number is
+computed with here. The sample of the Rust's answers in oracle/samples follows them.
 
 A line of stdin is a word and numbers of 8 hexadecimal digits each, one blank before each number:
 
@@ -47,12 +47,12 @@ MOST_VERTICES = 1024
 LIMIT = decode(of(2**20))
 NEARNESS = decode(rounded(Fraction(1, 10000)))
 LEAST_RADIUS = decode(of(Fraction(1, 2**23)))
-ROUND_RECT_KAPPA = decode(rounded(Fraction(5522848, 10**7)))
+KAPPA = decode(rounded(Fraction(5522848, 10**7)))
 HALF = decode(of(Fraction(1, 2)))
 MINUS_HALF = decode(of(Fraction(-1, 2)))
 
 
-# The rules of document 01. A command is its code and its numbers.
+# The rules of document 01, and of document 02 for ellipses. A command is its code and its numbers.
 
 def sub(x, y):
     return add(x, (1 - y[0], y[1]))
@@ -91,11 +91,16 @@ def bezier_path(closed, numbers):
     return commands
 
 
+def sides(x, y, width, height):
+    """The sides of the box: left, top, right and bottom."""
+    left, top = mul_add(MINUS_HALF, width, x), mul_add(MINUS_HALF, height, y)
+    return left, top, add(left, width), add(top, height)
+
+
 def rect_path(numbers):
     x, y, width, height, roundness = numbers
     width, height = absolute(width), absolute(height)
-    left, top = mul_add(MINUS_HALF, width, x), mul_add(MINUS_HALF, height, y)
-    right, bottom = add(left, width), add(top, height)
+    left, top, right, bottom = sides(x, y, width, height)
     radius = clamp(roundness, decode(ZERO), mul(minimum(width, height), HALF))
     if at_most(radius, LEAST_RADIUS):
         corners = [[left, top], [right, top], [right, bottom], [left, bottom]]
@@ -105,7 +110,7 @@ def rect_path(numbers):
 
 def round_rect_path(left, top, right, bottom, radius):
     """Four sides and four corners. A name ends in 1 a radius from its side, in 2 a tangent further out."""
-    tangent = mul(radius, ROUND_RECT_KAPPA)
+    tangent = mul(radius, KAPPA)
     left1, top1, right1, bottom1 = add(left, radius), add(top, radius), sub(right, radius), sub(bottom, radius)
     left2, top2, right2, bottom2 = sub(left1, tangent), sub(top1, tangent), add(right1, tangent), add(bottom1, tangent)
     return [
@@ -120,6 +125,22 @@ def round_rect_path(left, top, right, bottom, radius):
         (CUBIC, [left, top2, left2, top, left1, top]),
         (CLOSE, []),
     ]
+
+
+def ellipse_path(numbers):
+    """The four ends in walking order, each with its tangent's ends: the one that is met first, and the other."""
+    x, y, width, height = numbers
+    width, height = absolute(width), absolute(height)
+    left, top, right, bottom = sides(x, y, width, height)
+    across, down = mul(mul(HALF, width), KAPPA), mul(mul(HALF, height), KAPPA)
+    ends = [
+        ([sub(x, across), top], [x, top], [add(x, across), top]),
+        ([right, sub(y, down)], [right, y], [right, add(y, down)]),
+        ([add(x, across), bottom], [x, bottom], [sub(x, across), bottom]),
+        ([left, add(y, down)], [left, y], [left, sub(y, down)]),
+    ]
+    curves = [(CUBIC, start[2] + end[0] + end[1]) for start, end in zip(ends, ends[1:] + ends[:1])]
+    return [(MOVE, ends[0][1])] + curves + [(CLOSE, [])]
 
 
 def all_within(numbers):
@@ -149,19 +170,21 @@ def item_outcome(row, numbers):
     marks, counts = ((0, 1), range(2**32)) if kind == SH else ((0,), (0,))
     if kind not in (SH, RC, EL, SR) or hidden not in (0, 1) or mark not in marks or count not in counts:
         return 4
-    if kind in (EL, SR):
+    if kind == SR:
         return 5
     if kind == SH and count == 0:
         return 1
     if count > MOST_VERTICES:
         return 2
-    needed = 6 * count if kind == SH else 5
+    needed = {SH: 6 * count, RC: 5, EL: 4}[kind]
     if place + needed > len(numbers):
         return 12
     numbers = numbers[place:place + needed]
     if not all_within(numbers):
         return 3
-    return bezier_path(mark, numbers) if kind == SH else rect_path(numbers)
+    if kind == SH:
+        return bezier_path(mark, numbers)
+    return rect_path(numbers) if kind == RC else ellipse_path(numbers)
 
 
 def estimate_outcome(count):
@@ -230,7 +253,7 @@ def vertices(*points):
     return [pattern for x, y in points for pattern in (of(x), of(y), ZERO, ZERO, ZERO, ZERO)]
 
 
-def rectangle(*numbers):
+def exactly(*numbers):
     return [of(Fraction(n)) for n in numbers]
 
 
@@ -244,7 +267,7 @@ REFUSED = [LIMIT_PATTERN + 1, LIMIT_PATTERN + 1 | SIGN, LARGEST, INFINITY, INFIN
 
 
 def plates():
-    """The worked plates of document 01, and shapes like them."""
+    """The worked plates of document 01, shapes like them, and two ellipses worked by hand."""
     yield path(1, 3, TRIANGLE)
     yield path(0, 3, TRIANGLE)
     yield path(0, 2, vertices((0, 0), (3, 4)))
@@ -252,10 +275,12 @@ def plates():
     yield path(1, 1, [of(5), of(-6), ONE, ONE, ONE, ONE])
     yield path(0, 2, [ZERO, ZERO, ZERO, ZERO, SHORT, ZERO] + vertices((3, 4)))
     yield path(0, 2, [ZERO, ZERO, ZERO, ZERO, LONG, ZERO] + vertices((3, 4)))
-    yield item([RC, 0, 0, 0, 0, 0], rectangle(0, 0, 3, 4, 0))
-    yield item([RC, 0, 0, 0, 0, 0], rectangle(0, 0, 8, 4, 1))
+    yield item([RC, 0, 0, 0, 0, 0], exactly(0, 0, 3, 4, 0))
+    yield item([RC, 0, 0, 0, 0, 0], exactly(0, 0, 8, 4, 1))
     yield item([SH, 0, 0, 1, 0, 3], TRIANGLE)
     yield path(1, 2, TRIANGLE[:12] + [A_NAN] * 6)
+    yield item([EL, 0, 0, 0, 0, 0], exactly(0, 0, 2, 4))
+    yield item([EL, 0, 0, 0, 0, 0], exactly(5, 6, 0, -2))
 
 
 def tangents():
@@ -289,7 +314,7 @@ def rectangles(rng):
     row = [RC, 0, 0, 0, 0, 0]
     half = of(Fraction(3, 2))
     radii = both_signs([ZERO, TINIEST, of(1), of(100)]) + around(of(Fraction(1, 2**23))) + around(half)
-    yield from (item(row, rectangle(1, 2, 3, -4) + [radius]) for radius in radii)
+    yield from (item(row, exactly(1, 2, 3, -4) + [radius]) for radius in radii)
     # Half of a subnormal width is not exact, so that a product rounded by itself shows.
     sizes = [TINIEST, TINIEST | SIGN, 3, LARGEST_SUBNORMAL, SMALLEST_NORMAL + 1]
     yield from (item(row, [x, x, size, size, ONE]) for x in (ZERO, SIGN, TINIEST, 2, 3 | SIGN) for size in sizes)
@@ -301,12 +326,33 @@ def rectangles(rng):
     yield item(row, [LIMIT_PATTERN | SIGN] * 4 + [LIMIT_PATTERN])
 
 
+def ellipses(rng):
+    row = [EL, 0, 0, 0, 0, 0]
+    # The half of an odd subnormal side is rounded before the tangent: 13 units have the half 6 and the tangent 3.
+    sides = [13, TINIEST, TINIEST | SIGN, 3, 2, LARGEST_SUBNORMAL, SMALLEST_NORMAL + 1]
+    yield from (item(row, [x, y, side, 13]) for x, y in ((ZERO, SIGN), (SIGN, TINIEST), (2, 3 | SIGN)) for side in sides)
+    # Flat ones and points; an end keeps the sign of a zero centre, and a control point may lose it.
+    for width, height in ((ZERO, ONE), (ONE, SIGN), (ZERO, SIGN), (SIGN, SIGN), (SIGN, of(-3))):
+        yield from (item(row, [x, y, width, height]) for x, y in ((SIGN, ZERO), (SIGN, SIGN), (TENTH, SIGN)))
+    # The right side is left + width, and not the centre and half the width.
+    for _ in range(6):
+        yield item(row, [rng.pattern(17, 19), rng.pattern(-4, 4), rng.pattern(-8, 6), rng.pattern(-8, 6)])
+    # A tangent that is rounded by itself, and again where it is added.
+    for _ in range(12):
+        yield item(row, [rng.pattern(-2, 10) for _ in range(4)])
+    yield item(row, [rng.pattern(-140, -120) for _ in range(4)])
+    yield item(row, [LIMIT_PATTERN | SIGN] * 4)
+    yield item(row, [LIMIT_PATTERN - 1, LIMIT_PATTERN | SIGN, LIMIT_PATTERN, LIMIT_PATTERN - 1])
+
+
 def rows():
     """Rows that are drawn: hidden, deep, with numbers around theirs that are not read."""
-    patterns = [A_NAN] + rectangle(0, 0, 3, 4, 0) + [INFINITY] + TRIANGLE + [A_NAN]
+    patterns = [A_NAN] + exactly(0, 0, 3, 4, 0) + [INFINITY] + TRIANGLE + [A_NAN]
     yield item([RC, 1, 2**32 - 1, 0, 1, 0], patterns)
     yield item([SH, 0, 9, 0, 7, 3], patterns)
     yield item([SH, 1, 0, 1, 7, 2], patterns, length=19)
+    yield item([EL, 1, 2**32 - 1, 0, 1, 0], patterns, length=5)
+    yield item([EL, 0, 1, 0, 2, 0], patterns)
 
 
 def path_refusals():
@@ -330,21 +376,24 @@ def path_refusals():
 REFUSED_ROWS = [
     [0, 0, 0, 0, 0, 0], [5, 0, 0, 0, 0, 0], [14, 0, 0, 0, 0, 0], [15, 0, 0, 0, 0, 0], [257, 0, 0, 0, 5, 3],
     [RC, 2, 0, 0, 0, 0], [SH, 256, 0, 0, 5, 3], [SH, 0, 0, 2, 5, 3], [RC, 0, 0, 1, 0, 0], [RC, 0, 0, 0, 0, 3],
-    [EL, 0, 0, 0, 0, 0], [SR, 1, 0, 0, 0, 0], [EL, 0, 0, 1, 0, 0], [SR, 0, 0, 0, 0, 1], [EL, 2, 0, 0, 0, 0],
-    [EL, 0, 0, 0, 99, 0], [SH, 0, 0, 1, 5, 0], [SH, 2, 0, 1, 5, 0], [SH, 0, 0, 2, 5, 0], [SH, 0, 0, 1, 99, 0],
+    [SR, 0, 0, 0, 0, 0], [SR, 1, 0, 0, 0, 0], [SR, 0, 0, 1, 0, 0], [SR, 0, 0, 0, 0, 1], [SR, 2, 0, 0, 0, 0],
+    [EL, 0, 0, 1, 0, 0], [EL, 0, 0, 0, 0, 1], [EL, 2, 0, 0, 0, 0], [EL, 0, 0, 1, 99, 4],
+    [EL, 0, 0, 0, 20, 0], [EL, 0, 0, 0, 23, 0], [EL, 0, 0, 0, 2**32 - 1, 0],
+    [SR, 0, 0, 0, 99, 0], [SH, 0, 0, 1, 5, 0], [SH, 2, 0, 1, 5, 0], [SH, 0, 0, 2, 5, 0], [SH, 0, 0, 1, 99, 0],
     [SH, 0, 0, 1, 5, 1025], [SH, 0, 0, 2, 5, 1025], [SH, 0, 0, 1, 99, 2**32 - 1],
     [SH, 0, 0, 1, 6, 3], [RC, 0, 0, 0, 19, 0], [RC, 0, 0, 0, 2**32 - 1, 0],
 ]
 
 
 def row_refusals():
-    patterns = rectangle(0, 0, 3, 4, 0) + TRIANGLE
+    patterns = exactly(0, 0, 3, 4, 0) + TRIANGLE
     for row in REFUSED_ROWS:
         yield item(row, patterns)
     yield from (item([RC, 0, 0, 0, 0, 0], patterns, entries=entries) for entries in (0, 1, 5))
     yield item([0, 2, 0, 2, 0, 0], patterns, entries=5)
     for at, pattern in enumerate(REFUSED):
         yield item([RC, 0, 0, 0, 1, 0], [pattern if i == 1 + at % 5 else p for i, p in enumerate(patterns)])
+        yield item([EL, 0, 0, 0, 1, 0], [pattern if i == 1 + at % 4 else p for i, p in enumerate(patterns)])
     yield item([SH, 0, 0, 1, 5, 3], patterns[:-1] + [A_NAN])
     yield item([SH, 0, 0, 1, 5, 3], [A_NAN] * 22)
     yield item([SH, 0, 0, 0, 6, 1025], TRIANGLE, length=6150)
@@ -360,6 +409,9 @@ def vectors():
     for call in list(plates()) + list(rows()):
         yield from ((call, *more) for more in ((0, 0), (2, 3), (-1, 0), (0, -1), (-1, 9), (9, -1), (-99, -99)))
     for call in list(tangents()) + list(curves(rng)) + list(rectangles(rng)):
+        yield (call, rng.between(0, 1), rng.between(0, 2))
+    rng = Random(20261116)
+    for call in ellipses(rng):
         yield (call, rng.between(0, 1), rng.between(0, 2))
     for call in list(path_refusals()) + list(row_refusals()):
         yield (call, 1, 2)

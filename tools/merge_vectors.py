@@ -142,12 +142,12 @@ WORD = re.compile(r"(\.*)(-?)([a-z]+)(\d*)(?:@(\d+))?(?:\*(\d+))?")
 
 
 def row_of(word, place):
-    """The entries of a row. A source that has no place has this one, and a path two vertices."""
+    """The entries of a row. An sh or rc that has no place has this one, and a path two vertices."""
     dots, hidden, kind, mark, at, count = WORD.fullmatch(word).groups()
-    is_source = kind in ("sh", "rc")
+    is_placed = kind in ("sh", "rc")
     return [
         KINDS.index(kind) + 1, int(hidden == "-"), len(dots), int(mark or 0),
-        int(at) if at else place if is_source else 0, int(count) if count else 2 if kind == "sh" else 0]
+        int(at) if at else place if is_placed else 0, int(count) if count else 2 if kind == "sh" else 0]
 
 
 def rows_of(text):
@@ -195,6 +195,10 @@ JOINING = """
     -gr .rc .-tr .gr ..rc ..-gr ...fl rc rc mm1
 """
 
+ELLIPSES_JOINING = """
+    rc el mm1; el@9 rc mm1; el el@4 mm1; sh1 el@2 tr sh*1 -el@255 gr .-el el@8 mm1 fl; el@66 rc@65 mm1
+"""
+
 NOT_JOINING = """
     rc rc; rc rc mm; rc rc mm2; rc rc mm255; rc rc -mm1; rc rc gr .mm1; rc rc -gr .mm1; mm1; rc mm1; rc -rc mm1
     rc mm1 rc; tr gr rc mm1; rc rc mm2 fl; -rc -rc mm1; fl; gr .rc .rc .mm1; mm1 rc rc; el sr
@@ -235,13 +239,20 @@ def sources(rng):
     yield merge("rc@0 rc@1 rc@2 mm1", [tenth, tenth | SIGN, LIMIT_PATTERN, LIMIT_PATTERN | SIGN], 7)
 
 
+def ellipse_sources(rng):
+    for text in ("el@1 rc@14 el@5 mm1", "el@15 sh1@1*2 mm1"):
+        for low, high in ((-3, 12), (-140, -120), (10, 18)):
+            patterns = [A_NAN] + [rng.pattern(low, high) for _ in range(18)] + [LIMIT_PATTERN + 1]
+            yield merge(text, patterns, 20)
+
+
 # Two sound rectangles, and a number at 10 that may be refused.
 SPOILT = USUAL[:5] * 2 + [A_NAN]
 
 # Sources with a fault each, for 12 numbers of which the one at 10 is refused: the refusal, the row, and what to
 # change in it, if the row cannot be written so.
 FAULTS = {
-    5: ("el", None), 1: ("sh@9*0", None), 2: ("sh@9*1", 1025), 12: ("rc@8", None), 3: ("rc@6", None),
+    5: ("sr", None), 1: ("sh@9*0", None), 2: ("sh@9*1", 1025), 12: ("rc@8", None), 3: ("rc@6", None),
 }
 
 
@@ -266,7 +277,9 @@ def source_orders():
             if first != second and not (change and other_change):
                 at = 5 if change else 17 if other_change else NOWHERE
                 yield merge("%s rc@0 %s mm1" % (one, other), SPOILT, 12, at=at, value=change or other_change or 0)
-    yield merge("el@9 rc@0 mm1", SPOILT, 12)
+    yield merge("sr@9 rc@0 mm1", SPOILT, 12)
+    # An ellipse has four numbers, so that it is drawn where a rectangle would meet the refused one.
+    yield from (merge(text, SPOILT, 12) for text in ("el@6 rc@0 mm1", "el@7 rc@0 mm1", "rc@0 el@8 mm1", "el@9 rc@0 mm1"))
     yield merge("sh@255*0 rc@0 mm1", SPOILT, 12)
     yield merge("sh@255*1 rc@0 mm1", SPOILT, 12, at=5, value=1025)
     yield merge("-el rc@6 -rc@8 rc@8 mm1", SPOILT, 12)
@@ -343,6 +356,9 @@ def vectors():
         yield from ((call, *more) for more in ((-5, -8), (0, -8), (-5, 0)))
     for call in list(written(JOINING)) + list(sources(rng)):
         yield (call, rng.between(0, 1), rng.between(0, 2))
+    other = Random(20261116)
+    for call in list(written(ELLIPSES_JOINING)) + list(ellipse_sources(other)):
+        yield (call, other.between(0, 1), other.between(0, 2))
     for calls in (
         written(NOT_JOINING, 7, [ONE]), written(BROKEN, 6, [ONE]), source_refusals(), source_orders(), row_refusals(),
         row_orders(), row_numbers(), hidden_rows(), random_rows(rng),

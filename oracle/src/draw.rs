@@ -1,10 +1,12 @@
-//! Compares the drawing calls: the Rust's own functions, under document 01's refusals, against ours.
+//! Compares the drawing calls: the Rust's own functions, under document 01's refusals, against ours. Ellipses, for which
+//! the Rust has none, are compared with a reading of document 02 (crate `source`).
 
 use crate::interface::{jengafir_draw_item, jengafir_draw_path};
 use crate::random::Random;
 use crate::report::{Outcomes, Report};
 use crate::sample::{bits, filled, line, Case, OLD_NUMBER};
-use crate::shapes::{any_item, any_path, edges, Input, MOST_VERTICES, RC, SH};
+use crate::length::compare_length;
+use crate::shapes::{any_ellipse_item, any_item, any_path, edges, Input, EL, MOST_VERTICES, RC, SH};
 use source::{BezierPath, BezierVertex, Path, ShapeItem};
 
 const LIMIT: f32 = 1_048_576.0;
@@ -21,6 +23,33 @@ pub fn compare(random: &mut Random, count: usize, report: &mut Report) {
     }
     report.outcomes.push(("draw_path", paths));
     report.outcomes.push(("draw_item", items));
+    compare_ellipses(random, count, report);
+}
+
+/// One ellipse in so many is measured too.
+const MEASURED: usize = 8;
+
+fn compare_ellipses(random: &mut Random, count: usize, report: &mut Report) {
+    let mut items: Outcomes = [0; 13];
+    let mut lengths: Outcomes = [0; 13];
+    let edges = edges();
+    for &x in &edges {
+        for &y in &edges {
+            for &side in &edges {
+                let numbers = vec![x, y, side, x];
+                judge(random, report, &mut items, &Input::Item { row: vec![EL, 0, 0, 0, 0, 0], numbers });
+            }
+        }
+    }
+    for i in 0..count {
+        let item = any_ellipse_item(random);
+        judge(random, report, &mut items, &item);
+        if let (0, Ok(path)) = (i % MEASURED, answer(&item)) {
+            compare_length(report, &path, &mut lengths);
+        }
+    }
+    report.outcomes.push(("draw_item of ellipses", items));
+    report.outcomes.push(("length of ellipses", lengths));
 }
 
 /// Paths of two vertices, and rectangles, whose numbers are edges.
@@ -68,19 +97,32 @@ fn item_answer(row: &[u32], numbers: &[f32]) -> Result<Path, u32> {
     check((1..=4).contains(&kind) && hidden <= 1, 4)?;
     check(if is_path { mark <= 1 } else { mark == 0 && count == 0 }, 4)?;
     let numbers = source_numbers(kind, place, count, numbers)?;
-    Ok(if is_path { bezier_path(mark, numbers) } else { rect_path(numbers) })
+    Ok(match kind {
+        SH => bezier_path(mark, numbers),
+        RC => rect_path(numbers),
+        _ => source::ellipse_path(&ellipse(numbers)).unwrap(),
+    })
 }
 
 /// The numbers of a source, after its checks in document 01's order: 5, 1, 2, 12, 3.
 pub fn source_numbers(kind: u32, place: u32, count: u32, numbers: &[f32]) -> Result<&[f32], u32> {
-    check(kind <= RC, 5)?;
+    check(kind <= EL, 5)?;
     check(kind != SH || count != 0, 1)?;
     check(count as usize <= MOST_VERTICES, 2)?;
     let place = place as usize;
-    let needed = if kind == SH { 6 * count as usize } else { 5 };
-    let numbers = numbers.get(place..place + needed).ok_or(12u32)?;
+    let numbers = numbers.get(place..place + entries(kind, count)).ok_or(12u32)?;
     check(all_within(numbers), 3)?;
     Ok(numbers)
+}
+
+/// How many numbers a source has.
+pub fn entries(kind: u32, count: u32) -> usize {
+    match kind {
+        SH => 6 * count as usize,
+        RC => 5,
+        EL => 4,
+        _ => 0,
+    }
 }
 
 pub fn check(holds: bool, refusal: u32) -> Result<(), u32> {
@@ -113,6 +155,14 @@ pub fn rectangle(numbers: &[f32]) -> ShapeItem {
         position: Some([numbers[0], numbers[1]]),
         size: Some([numbers[2], numbers[3]]),
         roundness: Some(numbers[4]),
+        ..ShapeItem::default()
+    }
+}
+
+pub fn ellipse(numbers: &[f32]) -> ShapeItem {
+    ShapeItem {
+        position: Some([numbers[0], numbers[1]]),
+        size: Some([numbers[2], numbers[3]]),
         ..ShapeItem::default()
     }
 }
@@ -272,6 +322,11 @@ pub fn sample(random: &mut Random) -> Vec<Case> {
     paths.into_iter().chain(items).collect()
 }
 
+/// Whether the Rust has a function for it: it has none for ellipses.
+pub fn is_the_rusts(input: &Input) -> bool {
+    !matches!(input, Input::Item { row, .. } if row.first() == Some(&EL))
+}
+
 /// The first short input that the Rust draws, and what is drawn.
 fn sampled(random: &mut Random, any: fn(&mut Random) -> Input) -> Case {
     loop {
@@ -281,7 +336,7 @@ fn sampled(random: &mut Random, any: fn(&mut Random) -> Input) -> Case {
             Input::Path { vertices, .. } => ("path", vertices),
             Input::Item { numbers, .. } => ("item", numbers),
         };
-        if answer.is_ok() && numbers.len() <= SAMPLED_NUMBERS {
+        if answer.is_ok() && is_the_rusts(&input) && numbers.len() <= SAMPLED_NUMBERS {
             let header = match &input {
                 Input::Path { closed, count, .. } => vec![*closed, *count as u32],
                 Input::Item { row, .. } => [&[6], &row[..6]].concat(),

@@ -4,7 +4,7 @@ use crate::draw::{answer, check};
 use crate::interface::jengafir_tray_estimate;
 use crate::random::Random;
 use crate::report::{Outcomes, Report};
-use crate::shapes::{any_item, any_path, Input, MOST_VERTICES, SH};
+use crate::shapes::{any_ellipse_item, any_item, any_path, Input, EL, MOST_VERTICES, SH};
 
 /// The number of the refusal, or 0, and the counts of codes and numbers.
 type Estimate = (u32, [usize; 2]);
@@ -22,7 +22,7 @@ pub fn compare(random: &mut Random, count: usize, report: &mut Report) {
     }
     for _ in 0..count / SHARE {
         compare_rule(report, &mut estimates, random.bits(64) as usize >> random.bits(6));
-        for input in [any_path(random), any_item(random)] {
+        for input in [any_path(random), any_item(random), any_ellipse_item(random)] {
             compare_drawing(report, &mut estimates, &input);
         }
     }
@@ -64,11 +64,12 @@ fn compare_drawing(report: &mut Report, estimates: &mut Outcomes, input: &Input)
     });
 }
 
-/// For how many vertices a host sets room aside: those of a path, and eight for a rectangle.
+/// For how many vertices a host sets room aside: those of a path, eight for a rectangle, and four for an ellipse.
 fn vertices(input: &Input) -> usize {
     match input {
         Input::Path { count, .. } => *count,
         Input::Item { row, .. } if row[0] == SH => row[5] as usize,
+        Input::Item { row, .. } if row[0] == EL => 4,
         Input::Item { .. } => 8,
     }
 }

@@ -1,6 +1,6 @@
 //! Command lists of the kinds on which reading and measuring go wrong.
 
-use crate::draw::answer;
+use crate::draw::{answer, is_the_rusts};
 use crate::random::{Random, EDGES};
 use crate::shapes::{any_item, any_path, one_of};
 use source::Path;
@@ -70,8 +70,9 @@ pub fn any_list(random: &mut Random) -> Path {
 fn drawn(random: &mut Random) -> Path {
     loop {
         let input = if random.bits(1) == 0 { any_path(random) } else { any_item(random) };
-        if let Ok(path) = answer(&input) {
-            return path;
+        match answer(&input) {
+            Ok(path) if is_the_rusts(&input) => return path,
+            _ => {}
         }
     }
 }

@@ -1,14 +1,16 @@
-//! Compares merges: the Rust's own functions, under document 01's refusals, against ours.
+//! Compares merges: the Rust's own functions, under document 01's refusals, against ours. An ellipse among the sources is
+//! drawn by a reading of document 02, since the Rust has no function for it; that it is joined, and where, is the Rust's.
 
 use crate::draw::Outcome;
-use crate::draw::{check, drawn_case, lengths, rectangle, shown_difference, shown_list, source_numbers, vertex_list};
+use crate::draw::{check, drawn_case, ellipse, entries, lengths, rectangle, source_numbers, vertex_list};
+use crate::draw::{shown_difference, shown_list};
 use crate::interface::jengafir_merge;
 use crate::random::Random;
 use crate::report::{Outcomes, Report};
 use crate::rows::{SHORT_GIVEN, SHORT_LENGTH};
-use crate::rows::{altered, any_list, short_list, List, Row, Stock, EL, GR, MM, MOST_DEPTH, MOST_ROWS, OTHER};
+use crate::rows::{altered, any_list, short_list, List, Row, Stock, GR, MM, MOST_DEPTH, MOST_ROWS, OTHER, SR};
 use crate::sample::Case;
-use crate::shapes::{MOST_VERTICES, RC, SH};
+use crate::shapes::{EL, MOST_VERTICES, RC, SH};
 use source::{Path, ShapeItem};
 use std::rc::Rc;
 
@@ -115,6 +117,7 @@ fn item(i: usize, row: &Row, numbers: Option<&[f32]>) -> ShapeItem {
     let drawn = numbers.and_then(|numbers| source_numbers(row.kind, row.place, row.count, numbers).ok());
     let mut item = match (row.kind, drawn) {
         (RC, Some(numbers)) => rectangle(numbers),
+        (EL, Some(numbers)) => ellipse(numbers),
         (SH, Some(numbers)) => ShapeItem { path: Some(vertex_list(row.mark, numbers)), ..ShapeItem::default() },
         _ => ShapeItem::default(),
     };
@@ -180,9 +183,8 @@ fn spoil_unread(random: &mut Random, list: &mut List, joined: &[usize]) {
     let mut read = vec![false; list.items.len()];
     for &i in joined {
         let row = Row::of(&list.rows[6 * i..6 * i + 6]);
-        let needed = if row.kind == SH { 6 * row.count as usize } else { 5 };
         let start = (row.place as usize).min(read.len());
-        let end = start.saturating_add(needed).min(read.len());
+        let end = start.saturating_add(entries(row.kind, row.count)).min(read.len());
         read[start..end].fill(true);
     }
     let spoiled = list.items.iter().zip(read).map(|(&x, read)| if read { x } else { random.float() });
@@ -245,10 +247,12 @@ fn for_each_short(every: &[Row], mut f: impl FnMut(&[Row])) {
 
 // Faults, two and more at once.
 
-/// What may be wrong with a source, in the order in which it counts.
-const SOURCE_FAULTS: [fn(&mut Row); 6] = [
+/// What may be wrong with a source, in the order in which it counts: first nothing, and then an ellipse, sound or not.
+const SOURCE_FAULTS: [fn(&mut Row); 8] = [
     |_| {},
-    |row| *row = Row::new(EL, 0, 0, 0),
+    |row| *row = Row { place: 4, ..Row::new(EL, 0, 0, 0) },
+    |row| *row = Row { place: 5, ..Row::new(EL, 0, 0, 0) },
+    |row| *row = Row::new(SR, 0, 0, 0),
     |row| row.count = 0,
     |row| row.count = MOST_VERTICES as u32 + 1,
     |row| row.place = 1_000,
@@ -319,8 +323,10 @@ pub fn sample(random: &mut Random) -> Vec<Case> {
     let mut cases = Vec::new();
     while left != [0, 0] {
         let list = short_list(random);
-        let answer = settle(&list).answer;
+        let Settled { joined, answer } = settle(&list);
         let left = match answer {
+            // The Rust has no word on ellipses.
+            Ok(_) if joined.iter().any(|&row| list.rows[6 * row] == EL) => continue,
             Ok(_) => &mut left[0],
             Err(7) => &mut left[1],
             Err(_) => continue,

@@ -44,7 +44,7 @@ impl Random {
         f32::from_bits((self.bits(1) as u32) << 31 | exponent << 23 | self.bits(23) as u32)
     }
 
-    fn subnormal(&mut self) -> f32 {
+    pub fn subnormal(&mut self) -> f32 {
         let digits = self.between(1, 23) as u32;
         self.sign() * f32::from_bits(self.bits(digits) as u32)
     }

@@ -1,12 +1,12 @@
 //! Lists of item rows of the kinds on which a merge goes wrong.
 
 use crate::random::Random;
-use crate::shapes::{any_rectangle, any_vertices, one_of, spoil, unread, wrong_flag, MOST_VERTICES, RC, SH};
+use crate::shapes::{any_ellipse, any_rectangle, any_vertices, one_of, spoil, unread, wrong_flag};
+use crate::shapes::{EL, MOST_VERTICES, RC, SH};
 use std::rc::Rc;
 
 pub const MOST_ROWS: usize = 256;
 pub const MOST_DEPTH: u32 = 8;
-pub const EL: u32 = 3;
 pub const SR: u32 = 4;
 pub const GR: u32 = 5;
 pub const TR: u32 = 6;
@@ -102,20 +102,21 @@ impl Stock {
         let mut spoiled = Vec::new();
         for i in 0..24 {
             items.extend(unread(random));
-            let count = match i {
-                0..=7 => 0,
-                8..=13 => random.between(1, 3) as usize,
-                _ => random.between(1, 7) as usize,
+            let (kind, count) = match i {
+                0..=6 => (RC, 0),
+                7..=11 => (EL, 0),
+                12..=16 => (SH, random.between(1, 3) as usize),
+                _ => (SH, random.between(1, 7) as usize),
             };
-            sound.push(stocked(random, &mut items, count, false));
+            sound.push(stocked(random, &mut items, kind, count, false));
             if i % 3 == 0 {
-                spoiled.push(stocked(random, &mut items, count, true));
+                spoiled.push(stocked(random, &mut items, kind, count, true));
             }
         }
         let count = random.between(200, MOST_VERTICES as i64) as usize;
-        let largest = stocked(random, &mut items, count, false);
-        let last = random.between(0, 2) as usize;
-        sound.push(stocked(random, &mut items, last, false));
+        let largest = stocked(random, &mut items, SH, count, false);
+        let last = [(RC, 0), (EL, 0), (SH, 1), (SH, 2)][random.bits(2) as usize];
+        sound.push(stocked(random, &mut items, last.0, last.1, false));
         Stock { items: items.into(), sound, largest, spoiled }
     }
 
@@ -153,20 +154,23 @@ impl Stock {
                 2 if row.kind == SH => row.count = one_of(random, &[1_025, 1_026, 0x2aaa_aaab, u32::MAX]),
                 3 if row.kind == SH => row.count = 1_024,
                 4 | 5 => row = self.spoiled[random.bits(32) as usize % self.spoiled.len()],
-                _ => row.place = one_of(random, &[length - 4, length, length + 1, 1 << 31, u32::MAX - 5, u32::MAX]),
+                _ => row.place = one_of(random, &[length - 4, length - 3, length, length + 1, 1 << 31, u32::MAX - 5, u32::MAX]),
             }
         }
         row
     }
 }
 
-/// Appends the numbers of a path, or of a rectangle where the count is 0, and gives their row.
-fn stocked(random: &mut Random, items: &mut Vec<f32>, count: usize, spoiled: bool) -> Row {
-    let mut numbers = if count == 0 { any_rectangle(random) } else { any_vertices(random, count) };
+/// Appends the numbers of a source of this kind, and gives their row.
+fn stocked(random: &mut Random, items: &mut Vec<f32>, kind: u32, count: usize, spoiled: bool) -> Row {
+    let mut numbers = match kind {
+        RC => any_rectangle(random),
+        EL => any_ellipse(random),
+        _ => any_vertices(random, count),
+    };
     if spoiled {
         spoil(random, &mut numbers);
     }
-    let kind = if count == 0 { RC } else { SH };
     let row = Row { kind, place: items.len() as u32, count: count as u32, ..Row::default() };
     items.append(&mut numbers);
     row

@@ -1,10 +1,11 @@
-//! Vertex lists, rectangles and item rows of the kinds on which drawing goes wrong.
+//! Vertex lists, rectangles, ellipses and item rows of the kinds on which drawing goes wrong.
 
 use crate::random::{Random, EDGES};
 
 pub const MOST_VERTICES: usize = 1_024;
 pub const SH: u32 = 1;
 pub const RC: u32 = 2;
+pub const EL: u32 = 3;
 
 /// What is lent to a call, the buffers apart.
 pub enum Input {
@@ -124,6 +125,23 @@ pub fn any_rectangle(random: &mut Random) -> Vec<f32> {
     numbers
 }
 
+/// An ellipse's four numbers: of one kind or subnormal, with a centre and a size of one kind or of two, or flat.
+pub fn any_ellipse(random: &mut Random) -> Vec<f32> {
+    let mut numbers = Vec::new();
+    for _ in ["centre", "size"] {
+        let kind = any_kind(random);
+        let subnormal = random.bits(2) == 0;
+        numbers.extend((0..2).map(|_| if subnormal { random.subnormal() } else { number(random, kind) }));
+    }
+    if random.bits(3) == 0 {
+        numbers[2 + random.bits(1) as usize] = random.sign() * 0.0;
+    }
+    if random.bits(4) == 0 {
+        numbers[random.bits(1) as usize] = random.sign() * 0.0;
+    }
+    numbers
+}
+
 /// A number of vertices: mostly few, at times the most or one less.
 fn any_count(random: &mut Random) -> usize {
     match random.bits(8) {
@@ -205,11 +223,27 @@ fn wrong_count(random: &mut Random, vertices: &mut Vec<f32>) -> usize {
     }
 }
 
+/// A row of a path or a rectangle, which may be damaged.
 pub fn any_item(random: &mut Random) -> Input {
-    let is_path = random.bits(1) == 0;
-    let count = if is_path { any_count(random) } else { 0 };
-    let mut read = if is_path { any_vertices(random, count) } else { any_rectangle(random) };
-    let mark = if is_path { random.bits(1) as u32 } else { 0 };
+    if random.bits(1) == 0 {
+        let count = any_count(random);
+        let read = any_vertices(random, count);
+        let mark = random.bits(1) as u32;
+        placed(random, SH, mark, count, read)
+    } else {
+        let read = any_rectangle(random);
+        placed(random, RC, 0, 0, read)
+    }
+}
+
+/// A row of an ellipse, which may be damaged.
+pub fn any_ellipse_item(random: &mut Random) -> Input {
+    let read = any_ellipse(random);
+    placed(random, EL, 0, 0, read)
+}
+
+/// A row of this kind whose numbers stand between others; either may be damaged.
+fn placed(random: &mut Random, kind: u32, mark: u32, count: usize, mut read: Vec<f32>) -> Input {
     let damage = random.bits(1) == 0;
     if damaged(random, damage) {
         spoil(random, &mut read);
@@ -222,7 +256,6 @@ pub fn any_item(random: &mut Random) -> Input {
     } else if random.bits(1) == 0 {
         numbers.extend(unread(random));
     }
-    let kind = if is_path { SH } else { RC };
     let mut row = vec![kind, random.bits(1) as u32, random.bits(32) as u32, mark, place, count as u32];
     if damage {
         damage_row(random, &mut row, numbers.len() as u32);

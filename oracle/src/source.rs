@@ -1,4 +1,5 @@
 //! The Rust's own functions for drawing, merging, measuring, trimming and repeating, cut by name out of its text, over stand-ins as document 01 has them.
+//! Ellipses alone are not the Rust's, whose text has none: they are a reading of document 02.
 
 mod root;
 
@@ -338,7 +339,34 @@ mod drawing_paths {
         build_rect_path(item, 0.0, None)
     }
 
-    /// Hands over the cache's path, where there is a cache, and else draws a path or a rectangle.
+    /// An ellipse by document 02's text, in the box of the Rust's own rectangle. Each end is left along one axis: the control
+    /// point after it lies that far on, and the one before it that far back.
+    pub fn ellipse_path(item: &ShapeItem) -> Option<Path> {
+        let [x, y] = item.position?;
+        let [width, height] = item.size?;
+        let rectangle = ShapeItem { position: item.position, size: item.size, roundness: Some(0.0), ..ShapeItem::default() };
+        let corners = build_rect_path(&rectangle, 0.0, None)?.numbers;
+        let [left, top, right, bottom] = [corners[0], corners[1], corners[2], corners[5]];
+        let [across, down] = [width, height].map(|side| 0.5 * side.abs() * 0.5522848);
+        let ends = [[x, top], [right, y], [x, bottom], [left, y]];
+        let leaving = [(0, across), (1, down), (0, -across), (1, -down)];
+        let control = |end: usize, sign: f32| {
+            let (axis, by) = leaving[end];
+            let mut point = ends[end];
+            point[axis] += sign * by;
+            point
+        };
+        let mut builder = PathBuilder::new();
+        builder.move_to(x, top);
+        for (start, end) in [(0, 1), (1, 2), (2, 3), (3, 0)] {
+            let ([x1, y1], [x2, y2], [x, y]) = (control(start, 1.0), control(end, -1.0), ends[end]);
+            builder.cubic_to(x1, y1, x2, y2, x, y);
+        }
+        builder.close();
+        builder.finish()
+    }
+
+    /// Hands over the cache's path, where there is a cache, and else draws a path, a rectangle or an ellipse.
     fn build_shape_source_path(
         item: &ShapeItem,
         frame: f32,
@@ -351,6 +379,7 @@ mod drawing_paths {
         match item.item_type.as_str() {
             "rc" => build_rect_path(item, frame, timeline_sample_cache).map(Rc::new),
             "sh" => build_bezier_path(item.path.as_ref()?).map(Rc::new),
+            "el" => ellipse_path(item).map(Rc::new),
             _ => None,
         }
     }
@@ -397,12 +426,17 @@ pub fn rect_path(item: &ShapeItem) -> Option<Path> {
     drawing_paths::rect_path(item)
 }
 
+/// The path of an ellipse, by document 02's text: the Rust has no function for it.
+pub fn ellipse_path(item: &ShapeItem) -> Option<Path> {
+    drawing_paths::ellipse_path(item)
+}
+
 /// The rows that a merge joins, whether or not each can be drawn; none where nothing is merged.
 pub fn joined_rows(items: &[ShapeItem]) -> Option<Vec<usize>> {
     drawing_paths::joined_rows(items)
 }
 
-/// The path of a merge whose sources are paths and rectangles that can be drawn; none where nothing is merged.
+/// The path of a merge whose sources are paths, rectangles and ellipses that can be drawn; none where nothing is merged.
 pub fn merged_path(items: &[ShapeItem]) -> Option<Path> {
     drawing_paths::merged_path(items)
 }

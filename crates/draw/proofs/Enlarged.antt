@@ -1,7 +1,7 @@
 -- A drawing of enlarged items is the enlarged drawing: the refusals are the same, and every number of the commands is multiplied. What is not read may
 -- differ freely. Assumes nothing.
-use mathlib.Core.Path.{_≡_, refl, sym, subst}
-use mathlib.Core.Bool.{Bool, true, false, cond}
+use mathlib.Core.Path.{_≡_, sym, subst}
+use mathlib.Core.Bool.{true, false}
 use mathlib.Core.List.{List, [], _∷_}
 use Prim.Native.Nat.{ℕ, zero, suc, _+_, _*_, _^_, _≤_, _<_}
 use native.Mathlib.Nat.{le-refl, zero-lt-suc}
@@ -14,22 +14,22 @@ use Rattle.ieee.specs.Limit.{allWithin, Bounded, AllBounded}
 use Rattle.ieee.specs.Grid.{On, Twin}
 use Rattle.ieee.proofs.Grid.{weaken, scale-on}
 use Rattle.ieee.proofs.Bounds.{on-bounded, all-bounded→within}
-use Rattle.command.specs.declared.Refusal.the-variants.{Unsupported}
 use Rattle.command.specs.Outcomes.{Outcome, accepted, mapped, Check, checked}
 use Rattle.command.specs.Enlarged.{Twins, DrawingTwin}
 use Rattle.command.proofs.Enlarged.{twins-weaken, drawing-refused, drawing-accepted, drawing-checked}
 use Rattle.path.specs.Path.{pathCommands}
 use Rattle.path.proofs.Enlarged.{path-twins}
-use Rattle.rect.specs.Rect.{cornerRadius}
 use Rattle.rect.proofs.Enlarged.{rect-twins}
+use Rattle.ellipse.proofs.Enlarged.{ellipse-twins}
 use Rattle.shape.specs.declared.Shape.{Shape}
-use Rattle.shape.specs.declared.Shape.the-variants.{Rect}
+use Rattle.shape.specs.declared.Shape.the-variants.{Path, Ellipse}
 use Rattle.shape.specs.Shape.{shapeCommands}
 use Rattle.item.specs.declared.ItemRow.{ItemRow}
-use Rattle.item.specs.Rows.{itemRow, isPath, isRect, entriesOf}
+use Rattle.item.specs.Rows.{itemRow, isPath, entriesOf}
 use Rattle.draw.specs.Checks.{coordinateLimit}
 use Rattle.draw.specs.Paths.{pathChecks, drawPath}
-use Rattle.draw.specs.Items.{itemShape, sourceChecks, shapeDrawn, drawSource, itemChecks, drawItem}
+use Rattle.draw.specs.Items.{rectOf, sourceChecks, shapeDrawn, drawSource, itemChecks, drawItem}
+use Rattle.draw.proofs.ByKind.{kinds-relate}
 use Rattle.draw.proofs.Sources.{source-passed, path-passed}
 use Rattle.draw.proofs.Sound.{limit-value}
 
@@ -79,29 +79,30 @@ module _ (k : ℕ) (K : k ≤ 6) (closed count : ℕ) (v v' : List Float) (same 
       drawing-accepted (list-twins k K closed count v v' (λ i h. twins i h (omega arith)))))
 
 -- ---- a row with listed entries
--- what holds of both answers to a test holds of the choice between them
-either : {A B : Type 0} (R : A → B → Type 0) (b : Bool) {x y : A} {x' y' : B} → (b ≡ true → R x x') → (b ≡ false → R y y') → R (cond b x y) (cond b x' y')
-either R true f g = f refl
-either R false f g = g refl
-
 -- a shape whose numbers stand at the start of v, kind by kind
 shape-twins : (k : ℕ) → k ≤ 6 → (row : ItemRow) (v v' : List Float) → ((i : ℕ) → i < entriesOf row → Twin k 10 13 (getD v i nan) (getD v' i nan))
     → DrawingTwin k 35 16 (shapeDrawn row v) (shapeDrawn row v')
-unfolding shapeDrawn itemShape shapeCommands entriesOf
-shape-twins k K row v v' twins =
-    either Alike (isPath row) (λ p. drawing-accepted (list-twins k K (row .mark) (row .count) v v' (λ i h. twins i (rw p h))))
-    (λ p. either Alike (isRect row) (λ r. rectangle (λ i h. twins i (rw (p, r) h)))
-    (λ r. drawing-refused Unsupported))
+unfolding shapeDrawn shapeCommands
+shape-twins k K row v v' twins = kinds-relate Alike row v v' path rectangle ellipse (λ r. drawing-refused r)
   where
     Alike : Outcome Shape → Outcome Shape → Type 0
     Alike o o' = DrawingTwin k 35 16 (mapped (λ (s : Shape). shapeCommands s v) o) (mapped (λ (s : Shape). shapeCommands s v') o')
 
-    rectangle : ((i : ℕ) → i < 5 → Twin k 10 13 (getD v i nan) (getD v' i nan))
-        → Alike (accepted (Rect (cornerRadius (getD v 2 nan) (getD v 3 nan) (getD v 4 nan)))) (accepted (Rect (cornerRadius (getD v' 2 nan) (getD v' 3 nan) (getD v' 4 nan))))
-    rectangle at =
+    first : (n : ℕ) → entriesOf row ≡ n → (i : ℕ) → i < n → Twin k 10 13 (getD v i nan) (getD v' i nan)
+    first n e i h = twins i (rw e h)
+
+    path : isPath row ≡ true → entriesOf row ≡ 6 * row .count → Alike (accepted (Path (row .mark) (row .count))) (accepted (Path (row .mark) (row .count)))
+    path p e = drawing-accepted (list-twins k K (row .mark) (row .count) v v' (first (6 * row .count) e))
+
+    rectangle : isPath row ≡ false → entriesOf row ≡ 5 → Alike (accepted (rectOf v)) (accepted (rectOf v'))
+    rectangle p e =
+        let at = first 5 e in
         drawing-accepted
         (rect-twins k K (getD v 0 nan) (getD v 1 nan) (getD v 2 nan) (getD v 3 nan) (getD v 4 nan) (getD v' 0 nan) (getD v' 1 nan) (getD v' 2 nan) (getD v' 3 nan) (getD v' 4 nan)
         (at 0 (lit< tt)) (at 1 (lit< tt)) (at 2 (lit< tt)) (at 3 (lit< tt)) (at 4 (lit< tt)))
+
+    ellipse : isPath row ≡ false → entriesOf row ≡ 4 → Alike (accepted Ellipse) (accepted Ellipse)
+    ellipse p e = let at = first 4 e in drawing-accepted (ellipse-twins K (at 0 (lit< tt)) (at 1 (lit< tt)) (at 2 (lit< tt)) (at 3 (lit< tt)))
 
 module _ (k : ℕ) (K : k ≤ 6) (row : ItemRow) (items items' : List Float) (same : length items' ≡ length items)
     (twins : (i : ℕ) → row .place ≤ i → i < row .place + entriesOf row → i < length items → Twin k 10 13 (getD items i nan) (getD items' i nan)) where

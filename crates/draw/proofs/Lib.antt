@@ -1,5 +1,6 @@
 -- What the proofs of `draw` cite.
 pub mod Ways
+pub mod ByKind
 pub mod Sources
 pub mod Sound
 pub mod Single

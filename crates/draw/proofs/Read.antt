@@ -1,6 +1,6 @@
 -- What drawing a row reads of the item list: the numbers of that row and no others. Assumes nothing.
 use mathlib.Core.Path.{_≡_, refl, sym, ap, ap₂, _∙_}
-use mathlib.Core.Bool.{Bool, true, false, cond}
+use mathlib.Core.Bool.{true, false}
 use mathlib.Core.List.{List, _∷_}
 use Prim.Native.Nat.{ℕ, zero, suc, _+_, _*_, _≤_, _<_}
 use native.Mathlib.Omega.{arith}
@@ -9,17 +9,16 @@ use lib.Ieee.{Float, nan}
 use lib.ListN.{length, getD, take, drop, length-drop, length-take}
 use lib.Seq.{getD-take, getD-drop, ext-getD}
 use Rattle.command.specs.declared.PathCommand.{PathCommand}
-use Rattle.command.specs.declared.Refusal.the-variants.{Unsupported}
-use Rattle.command.specs.Outcomes.{Outcome, refused, accepted, mapped, Check, checked}
+use Rattle.command.specs.Outcomes.{Outcome, accepted, mapped, Check, checked}
 use Rattle.command.proofs.Outcomes.{checks-relate}
 use Rattle.path.specs.Path.{vertexAt, verticesOf, bezierPath, pathCommands}
-use Rattle.rect.specs.Rect.{cornerRadius}
 use Rattle.shape.specs.declared.Shape.{Shape}
-use Rattle.shape.specs.declared.Shape.the-variants.{Path, Rect}
+use Rattle.shape.specs.declared.Shape.the-variants.{Path, Ellipse}
 use Rattle.shape.specs.Shape.{shapeCommands}
 use Rattle.item.specs.declared.ItemRow.{ItemRow}
-use Rattle.item.specs.Rows.{isPath, isRect, entriesOf}
-use Rattle.draw.specs.Items.{itemShape, sourceChecks, shapeDrawn, drawSource}
+use Rattle.item.specs.Rows.{isPath, entriesOf}
+use Rattle.draw.specs.Items.{rectOf, sourceChecks, shapeDrawn, drawSource}
+use Rattle.draw.proofs.ByKind.{kinds-relate}
 use Rattle.draw.proofs.Sources.{source-passed}
 
 vertices-read : (n : ℕ) (v v' : List Float) → ((i : ℕ) → i < 6 * n → getD v' i nan ≡ getD v i nan) → verticesOf n v' ≡ verticesOf n v
@@ -35,17 +34,23 @@ vertices-read (suc n) v v' same = ap₂ _∷_ first (vertices-read n (drop 6 v) 
 
 -- a shape whose numbers stand at the start of v, kind by kind
 shape-read : (row : ItemRow) (v v' : List Float) → ((i : ℕ) → i < entriesOf row → getD v' i nan ≡ getD v i nan) → shapeDrawn row v' ≡ shapeDrawn row v
-unfolding shapeDrawn itemShape shapeCommands pathCommands entriesOf
-shape-read row v v' same = go (isPath row) (isRect row) same
+unfolding shapeDrawn shapeCommands pathCommands
+shape-read row v v' same = kinds-relate Same row v v' path rectangle ellipse (λ r. refl)
   where
-    go : (a b : Bool) → ((i : ℕ) → i < cond a (6 * row .count) (cond b 5 0) → getD v' i nan ≡ getD v i nan)
-        → mapped (λ (s : Shape). shapeCommands s v')
-        (cond a (accepted (Path (row .mark) (row .count))) (cond b (accepted (Rect (cornerRadius (getD v' 2 nan) (getD v' 3 nan) (getD v' 4 nan)))) (refused Unsupported)))
-        ≡ mapped (λ (s : Shape). shapeCommands s v)
-        (cond a (accepted (Path (row .mark) (row .count))) (cond b (accepted (Rect (cornerRadius (getD v 2 nan) (getD v 3 nan) (getD v 4 nan)))) (refused Unsupported)))
-    go true b at = ap (λ (vs : List _). accepted (bezierPath (eqb (row .mark) 1) vs)) (vertices-read (row .count) v v' at)
-    go false true at = rw (at 0 (lit< tt), at 1 (lit< tt), at 2 (lit< tt), at 3 (lit< tt), at 4 (lit< tt))
-    go false false at = refl
+    Same : Outcome Shape → Outcome Shape → Type 0
+    Same o o' = mapped (λ (s : Shape). shapeCommands s v') o' ≡ mapped (λ (s : Shape). shapeCommands s v) o
+
+    first : (n : ℕ) → entriesOf row ≡ n → (i : ℕ) → i < n → getD v' i nan ≡ getD v i nan
+    first n e i h = same i (rw e h)
+
+    path : isPath row ≡ true → entriesOf row ≡ 6 * row .count → Same (accepted (Path (row .mark) (row .count))) (accepted (Path (row .mark) (row .count)))
+    path p e = ap (λ (vs : List _). accepted (bezierPath (eqb (row .mark) 1) vs)) (vertices-read (row .count) v v' (first (6 * row .count) e))
+
+    rectangle : isPath row ≡ false → entriesOf row ≡ 5 → Same (accepted (rectOf v)) (accepted (rectOf v'))
+    rectangle p e = let at = first 5 e in rw (at 0 (lit< tt), at 1 (lit< tt), at 2 (lit< tt), at 3 (lit< tt), at 4 (lit< tt))
+
+    ellipse : isPath row ≡ false → entriesOf row ≡ 4 → Same (accepted Ellipse) (accepted Ellipse)
+    ellipse p e = let at = first 4 e in rw (at 0 (lit< tt), at 1 (lit< tt), at 2 (lit< tt), at 3 (lit< tt))
 
 take-read : (n : ℕ) (v v' : List Float) → length v' ≡ length v → ((i : ℕ) → i < n → i < length v → getD v' i nan ≡ getD v i nan) → take n v' ≡ take n v
 take-read n v v' long same =

@@ -1,6 +1,6 @@
 -- What a drawing call answers is a sound command list: every number of it is within the limit of command lists. A refusal has no numbers. Assumes nothing.
 use mathlib.Core.Path.{_≡_, refl, subst}
-use mathlib.Core.Bool.{Bool, true, false, cond}
+use mathlib.Core.Bool.{true, false}
 use mathlib.Core.List.{List, []}
 use Prim.Native.Nat.{ℕ, _*_, _^_, _≤_, _<_}
 use lib.Dec.{lit<}
@@ -11,22 +11,22 @@ use Rattle.ieee.specs.Limit.{allWithin, Bounded}
 use Rattle.ieee.proofs.Bounds.{all-within→bounded, all-bounded-at}
 use Rattle.command.specs.declared.PathCommand.{PathCommand}
 use Rattle.command.specs.declared.Refusal.{Refusal}
-use Rattle.command.specs.declared.Refusal.the-variants.{Unsupported}
 use Rattle.command.specs.Commands.{numbersOf, commandLimit}
 use Rattle.command.specs.Outcomes.{Outcome, refused, accepted, mapped, listOf}
 use Rattle.command.proofs.Outcomes.{checks-hold}
 use Rattle.path.specs.Path.{pathCommands}
 use Rattle.path.proofs.Sound.{path-sound}
-use Rattle.rect.specs.Rect.{cornerRadius}
 use Rattle.rect.proofs.Sound.{rect-sound}
+use Rattle.ellipse.proofs.Sound.{ellipse-sound}
 use Rattle.shape.specs.declared.Shape.{Shape}
-use Rattle.shape.specs.declared.Shape.the-variants.{Path, Rect}
+use Rattle.shape.specs.declared.Shape.the-variants.{Path, Ellipse}
 use Rattle.shape.specs.Shape.{shapeCommands}
 use Rattle.item.specs.declared.ItemRow.{ItemRow}
-use Rattle.item.specs.Rows.{itemRow, isPath, isRect, entriesOf}
+use Rattle.item.specs.Rows.{itemRow, isPath, entriesOf}
 use Rattle.draw.specs.Checks.{coordinateLimit}
 use Rattle.draw.specs.Paths.{pathChecks, drawPath}
-use Rattle.draw.specs.Items.{itemShape, sourceChecks, shapeDrawn, drawSource, itemChecks, drawItem}
+use Rattle.draw.specs.Items.{rectOf, sourceChecks, shapeDrawn, drawSource, itemChecks, drawItem}
+use Rattle.draw.proofs.ByKind.{kinds-hold}
 use Rattle.draw.proofs.Sources.{source-passed, entries-dropped, path-passed}
 
 -- the commands of an outcome are within the limit
@@ -57,18 +57,27 @@ limit-value = (refl, refl)
 
 -- a shape whose numbers stand at the start of v, kind by kind
 shape-sound : (row : ItemRow) (v : List Float) → allWithin coordinateLimit (take (entriesOf row) v) ≡ true → entriesOf row ≤ length v → SoundOutcome (shapeDrawn row v)
-unfolding shapeDrawn itemShape shapeCommands entriesOf
-shape-sound row v w h = go (isPath row) (isRect row) w h
+unfolding shapeDrawn shapeCommands
+shape-sound row v w h = kinds-hold SoundShape row v path rectangle ellipse (λ r. refusal-sound)
   where
-    go : (a b : Bool) → allWithin coordinateLimit (take (cond a (6 * row .count) (cond b 5 0)) v) ≡ true → cond a (6 * row .count) (cond b 5 0) ≤ length v
-        → SoundOutcome
-        (mapped (λ (s : Shape). shapeCommands s v)
-        (cond a (accepted (Path (row .mark) (row .count))) (cond b (accepted (Rect (cornerRadius (getD v 2 nan) (getD v 3 nan) (getD v 4 nan)))) (refused Unsupported))))
-    go true b w h = path-sound (row .mark) (row .count) v w h
-    go false true w h =
-        let at : (i : ℕ) → i < 5 → Bounded (2 ^ 20) (getD v i nan) = λ i l. all-bounded-at (2 ^ 20) 5 v (all-within→bounded (2 ^ 20) coordinateLimit (take 5 v) limit-value w) h i l in
+    SoundShape : Outcome Shape → Type 0
+    SoundShape o = SoundOutcome (mapped (λ (s : Shape). shapeCommands s v) o)
+
+    first : (n : ℕ) → entriesOf row ≡ n → (i : ℕ) → i < n → Bounded (2 ^ 20) (getD v i nan)
+    first n e i l = all-bounded-at (2 ^ 20) n v (all-within→bounded (2 ^ 20) coordinateLimit (take n v) limit-value (rw e at w)) (rw e at h) i l
+
+    path : isPath row ≡ true → entriesOf row ≡ 6 * row .count → SoundShape (accepted (Path (row .mark) (row .count)))
+    path p e = path-sound (row .mark) (row .count) v (rw e at w) (rw e at h)
+
+    rectangle : isPath row ≡ false → entriesOf row ≡ 5 → SoundShape (accepted (rectOf v))
+    rectangle p e =
+        let at = first 5 e in
         rect-sound (getD v 0 nan) (getD v 1 nan) (getD v 2 nan) (getD v 3 nan) (getD v 4 nan) (at 0 (lit< tt)) (at 1 (lit< tt)) (at 2 (lit< tt)) (at 3 (lit< tt)) (at 4 (lit< tt))
-    go false false w h = refusal-sound
+
+    ellipse : isPath row ≡ false → entriesOf row ≡ 4 → SoundShape (accepted Ellipse)
+    ellipse p e =
+        let at = first 4 e in
+        ellipse-sound (getD v 0 nan) (getD v 1 nan) (getD v 2 nan) (getD v 3 nan) (at 0 (lit< tt)) (at 1 (lit< tt)) (at 2 (lit< tt)) (at 3 (lit< tt))
 
 pub source-sound : (row : ItemRow) (items : List Float) → SoundOutcome (drawSource row items)
 unfolding drawSource

@@ -2,7 +2,7 @@
 -- shape's, which are few.
 -- Assumes nothing.
 use mathlib.Core.Path.{_≡_, refl, sym, ap}
-use mathlib.Core.Bool.{Bool, true, false, cond, _&&_}
+use mathlib.Core.Bool.{true, false, _&&_}
 use mathlib.Core.List.{List}
 use Prim.Native.Nat.{ℕ, _+_, _*_, _≤_, _<_}
 use native.Mathlib.Omega.{arith}
@@ -12,23 +12,22 @@ use lib.ListN.{length, getD, take, drop, length-drop}
 use borrow.Author.Tests.{eqb-false, ltb-false, not-false}
 use Rattle.ieee.specs.Limit.{allWithin}
 use Rattle.command.specs.declared.PathCommand.{PathCommand}
-use Rattle.command.specs.declared.Refusal.the-variants.{Unsupported}
 use Rattle.command.specs.Commands.{numbersOf}
 use Rattle.command.specs.Outcomes.{Outcome, refused, accepted, mapped, listOf, AllPass}
 use Rattle.command.proofs.Outcomes.{refused-accepted, checks-passed}
 use Rattle.command.proofs.Passes.{numbers-few}
 use Rattle.path.specs.Path.{pathCommands}
 use Rattle.path.proofs.Paths.{pathCommands-few}
-use Rattle.rect.specs.Rect.{cornerRadius}
 use Rattle.shape.specs.declared.Shape.{Shape}
-use Rattle.shape.specs.declared.Shape.the-variants.{Path, Rect}
+use Rattle.shape.specs.declared.Shape.the-variants.{Path, Ellipse}
 use Rattle.shape.specs.Shape.{shapeCommands, Fit}
 use Rattle.shape.proofs.Few.{few}
 use Rattle.item.specs.declared.ItemRow.{ItemRow}
-use Rattle.item.specs.Rows.{itemRow, isPath, isRect, entriesOf}
+use Rattle.item.specs.Rows.{itemRow, isPath, entriesOf}
 use Rattle.draw.specs.Checks.{coordinateLimit}
 use Rattle.draw.specs.Paths.{pathChecks, drawPath}
-use Rattle.draw.specs.Items.{hasNoVertices, itemShape, sourceChecks, shapeDrawn, drawSource, itemChecks, drawItem}
+use Rattle.draw.specs.Items.{hasNoVertices, rectOf, itemShape, sourceChecks, shapeDrawn, drawSource, itemChecks, drawItem}
+use Rattle.draw.proofs.ByKind.{kinds-hold}
 
 -- ---- the checks of a row, passed
 pub record Passed (row : ItemRow) (items : List Float) : Type 0 where
@@ -60,20 +59,23 @@ pub record DrawnSource (row : ItemRow) (items : List Float) (cs : List PathComma
   pub drawn : shapeDrawn row (drop (row .place) items) ≡ accepted cs
 
 made-fits : (row : ItemRow) (v : List Float) (s : Shape) → hasNoVertices row ≡ false → row .count ≤ 1024 → entriesOf row ≤ length v → itemShape row v ≡ accepted s → Fit s v
-unfolding itemShape entriesOf
-made-fits row v s = go (isPath row) (isRect row)
+made-fits row v s some few inside = kinds-hold Fits row v path rectangle ellipse (λ r e. refused-accepted r s e)
   where
-    rect : Shape
-    rect = Rect (cornerRadius (getD v 2 nan) (getD v 3 nan) (getD v 4 nan))
+    Fits : Outcome Shape → Type 0
+    Fits o = o ≡ accepted s → Fit s v
 
-    go : (a b : Bool) → (a && eqb (row .count) 0) ≡ false → row .count ≤ 1024 → cond a (6 * row .count) (cond b 5 0) ≤ length v
-        → cond a (accepted (Path (row .mark) (row .count))) (cond b (accepted rect) (refused Unsupported)) ≡ accepted s → Fit s v
-    go true b some few inside e =
+    path : isPath row ≡ true → entriesOf row ≡ 6 * row .count → Fits (accepted (Path (row .mark) (row .count)))
+    path p n e =
         let is : Path (row .mark) (row .count) ≡ s = cc in
-        let one : row .count ≡ 0 → ⊥ = eqb-false (row .count) 0 some in
-        rw (← is) (record { some = omega arith; few = few; inside = inside })
-    go false true some few inside e = let is : rect ≡ s = cc in rw (← is) (omega arith)
-    go false false some few inside e = refused-accepted Unsupported s e
+        let test : (isPath row && eqb (row .count) 0) ≡ false = some in
+        let one : row .count ≡ 0 → ⊥ = eqb-false (row .count) 0 (rw p at test) in
+        rw (← is) (record { some = omega arith; few = few; inside = omega arith })
+
+    rectangle : isPath row ≡ false → entriesOf row ≡ 5 → Fits (accepted (rectOf v))
+    rectangle p n e = let is : rectOf v ≡ s = cc in rw (← is) (omega arith)
+
+    ellipse : isPath row ≡ false → entriesOf row ≡ 4 → Fits (accepted Ellipse)
+    ellipse p n e = let is : Ellipse ≡ s = cc in rw (← is) (omega arith)
 
 pub drawn-source : (row : ItemRow) (items : List Float) (cs : List PathCommand) → drawSource row items ≡ accepted cs → DrawnSource row items cs
 unfolding drawSource shapeDrawn

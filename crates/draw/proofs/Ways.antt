@@ -22,11 +22,11 @@ use Rattle.command.specs.Buffers.{inBuffers, fitted, FilledBoth, roomOf}
 use Rattle.command.proofs.Buffers.{both-unfilled}
 use Rattle.rect.specs.Rect.{cornerRadius}
 use Rattle.shape.specs.declared.Shape.{Shape}
-use Rattle.shape.specs.declared.Shape.the-variants.{Path, Rect}
+use Rattle.shape.specs.declared.Shape.the-variants.{Path, Rect, Ellipse}
 use Rattle.shape.specs.Shape.{shapeCommands, Fit}
 use Rattle.item.specs.declared.ItemRow.{ItemRow}
 use Rattle.item.specs.Rows.{itemRow, isListed, entriesOf}
-use Rattle.item.proofs.Entries.{entries-path, entries-rect}
+use Rattle.item.proofs.Entries.{entries-path, entries-rect, entries-ellipse}
 use Rattle.draw.specs.declared.Checked.{Checked}
 use Rattle.draw.specs.declared.Checked.the-variants.{Fault, Sound}
 use Rattle.draw.specs.Checks.{coordinateLimit, outcomeOf, Ready}
@@ -99,8 +99,11 @@ module _ (row : ItemRow) where
   pub rect-drawn : row .kind ≡ 2 → false ≡ isHeldBack row
   rect-drawn h = rw h
 
-  pub others-held : (row .kind ≡ 1 → ⊥) → (row .kind ≡ 2 → ⊥) → true ≡ isHeldBack row
-  others-held a b = rw (ne-eqb (row .kind) 1 a, ne-eqb (row .kind) 2 b)
+  pub ellipse-drawn : row .kind ≡ 3 → false ≡ isHeldBack row
+  ellipse-drawn h = rw h
+
+  pub others-held : (row .kind ≡ 1 → ⊥) → (row .kind ≡ 2 → ⊥) → (row .kind ≡ 3 → ⊥) → true ≡ isHeldBack row
+  others-held a b c = rw (ne-eqb (row .kind) 1 a, ne-eqb (row .kind) 2 b, ne-eqb (row .kind) 3 c)
 
   module _ (items : List Float) (some : hasNoVertices row ≡ false) (few : row .count ≤ 1024) (inside : row .place + entriesOf row ≤ length items) where
     abbrev from : List Float
@@ -134,11 +137,37 @@ module _ (row : ItemRow) where
       pub rect-fits : (radius : Float) → Ready (Sound (row .place) (Rect radius)) items
       rect-fits radius = (omega arith, rw length-drop (omega (arith, five)))
 
-    pub shape-none : (row .kind ≡ 1 → ⊥) → (row .kind ≡ 2 → ⊥) → outcomeOf (Fault Unsupported) items ≡ shapeDrawn row from
-    unfolding shapeDrawn itemShape outcomeOf
-    shape-none a b = rw (ne-eqb (row .kind) 1 a, ne-eqb (row .kind) 2 b)
+    module _ (a : row .kind ≡ 1 → ⊥) (b : row .kind ≡ 2 → ⊥) where
+      module _ (h : row .kind ≡ 3) where
+        pub shape-ellipse : outcomeOf (Sound (row .place) Ellipse) items ≡ shapeDrawn row from
+        unfolding shapeDrawn itemShape outcomeOf
+        shape-ellipse = rw (ne-eqb (row .kind) 1 a, ne-eqb (row .kind) 2 b, eq-eqb (row .kind) 3 h)
 
-pub ruleset kinds = (no-vertices-path, no-vertices-other, path-drawn, rect-drawn, others-held, shape-path, path-fits, five-inside, shape-rect, rect-fits, shape-none)
+        pub ellipse-fits : Ready (Sound (row .place) Ellipse) items
+        ellipse-fits =
+            let four = entries-ellipse row (ne-eqb (row .kind) 1 a) (ne-eqb (row .kind) 2 b) (eq-eqb (row .kind) 3 h) in
+            (omega arith, rw length-drop (omega arith))
+
+      pub shape-none : (row .kind ≡ 3 → ⊥) → outcomeOf (Fault Unsupported) items ≡ shapeDrawn row from
+      unfolding shapeDrawn itemShape outcomeOf
+      shape-none c = rw (ne-eqb (row .kind) 1 a, ne-eqb (row .kind) 2 b, ne-eqb (row .kind) 3 c)
+
+pub ruleset kinds = (
+  no-vertices-path,
+  no-vertices-other,
+  path-drawn,
+  rect-drawn,
+  ellipse-drawn,
+  others-held,
+  shape-path,
+  path-fits,
+  five-inside,
+  shape-rect,
+  rect-fits,
+  shape-ellipse,
+  ellipse-fits,
+  shape-none,
+)
 
 -- ---- check_source
 module _ (row : ItemRow) (items : List Float) where

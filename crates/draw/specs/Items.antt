@@ -11,10 +11,10 @@ use Rattle.command.specs.declared.Refusal.the-variants.{Empty, TooMany, OutOfRa
 use Rattle.command.specs.Outcomes.{Outcome, refused, accepted, mapped, Check, _gives_, checked}
 use Rattle.rect.specs.Rect.{cornerRadius}
 use Rattle.shape.specs.declared.Shape.{Shape}
-use Rattle.shape.specs.declared.Shape.the-variants.{Path, Rect}
+use Rattle.shape.specs.declared.Shape.the-variants.{Path, Rect, Ellipse}
 use Rattle.shape.specs.Shape.{shapeCommands}
 use Rattle.item.specs.declared.ItemRow.{ItemRow}
-use Rattle.item.specs.Rows.{itemRow, isPath, isRect, isListed, entriesOf}
+use Rattle.item.specs.Rows.{itemRow, isPath, isRect, isEllipse, isListed, entriesOf}
 use Rattle.draw.specs.Checks.{coordinateLimit}
 
 -- A row that can be asked to be drawn: listed, of the kinds sh 1, rc 2, el 3, sr 4. The depth is not read, and a hidden row is drawn.
@@ -24,21 +24,26 @@ isDrawable row = isListed row && leb (row .kind) 4
 
 -- ---- the questions about a kind, kind by kind; how many numbers it has is `entriesOf`, which marks it may bear `isMark` (crates/item/specs/Rows.antt)
 
--- what is not drawn yet, document 01's 'held back': all but paths and rectangles
+-- what is not drawn yet, document 01's 'held back': all but paths, rectangles and ellipses
 abbrev pub isHeldBack : ItemRow → Bool
-isHeldBack row = not (isPath row || isRect row)
+isHeldBack row = not (isPath row || isRect row || isEllipse row)
 
 -- a path without vertices
 abbrev pub hasNoVertices : ItemRow → Bool
 hasNoVertices row = isPath row && eqb (row .count) 0
+
+-- the rectangle whose centre, size and roundness are the first five numbers of v
+abbrev pub rectOf : List Float → Shape
+rectOf v = Rect (cornerRadius (getD v 2 nan) (getD v 3 nan) (getD v 4 nan))
 
 -- The shape of a row whose numbers stand at the start of v. Making one may itself refuse, after all other checks; none does yet, since the kinds without
 -- a shape are held back before.
 unfoldable pub itemShape : ItemRow → List Float → Outcome Shape
 itemShape row v =
     cond (isPath row) (accepted (Path (row .mark) (row .count)))
-    (cond (isRect row) (accepted (Rect (cornerRadius (getD v 2 nan) (getD v 3 nan) (getD v 4 nan))))
-    (refused Unsupported))
+    (cond (isRect row) (accepted (rectOf v))
+    (cond (isEllipse row) (accepted Ellipse)
+    (refused Unsupported)))
 
 -- ---- the call
 

@@ -70,6 +70,7 @@ fn is_held_back(row: ItemRow) -> bool
     match kind {
         1 => false,
         2 => false,
+        3 => false,
         _ => true,
     }
 }
@@ -86,6 +87,9 @@ pub fn shape_of(row: ItemRow, items: &[f32]) -> Checked
     if row.kind == 2 {
         let radius = rect::corner_radius(items[i + 2], items[i + 3], items[i + 4]);
         return Checked::Sound(i, Shape::Rect(radius));
+    }
+    if row.kind == 3 {
+        return Checked::Sound(i, Shape::Ellipse);
     }
     Checked::Fault(Refusal::Unsupported)
 }

@@ -1,7 +1,7 @@
 -- An estimate is never less than a drawing of so many vertices writes, as a list or as a row, and it is refused only where every drawing of so many is, by the same number.
--- A rectangle writes at most 10 codes and 34 numbers. Assumes nothing.
-use mathlib.Core.Path.{_≡_, refl, sym, ap}
-use mathlib.Core.Bool.{Bool, true, false, cond, _&&_}
+-- A rectangle or an ellipse writes at most 10 codes and 34 numbers. Assumes nothing.
+use mathlib.Core.Path.{_≡_, sym, ap, _∙_}
+use mathlib.Core.Bool.{Bool, true, false, cond, _&&_, true≢false}
 use mathlib.Core.List.{List, [], _∷_}
 use Prim.Native.Nat.{ℕ, _+_, _*_, _≤_, _<_}
 use native.Mathlib.Omega.{arith}
@@ -11,22 +11,23 @@ use lib.ListN.{length, getD, drop}
 use borrow.Author.Tests.{eqb-false}
 use Rattle.command.specs.declared.PathCommand.{PathCommand}
 use Rattle.command.specs.declared.Refusal.{Refusal}
-use Rattle.command.specs.declared.Refusal.the-variants.{Empty, TooMany, Unsupported}
+use Rattle.command.specs.declared.Refusal.the-variants.{Empty, TooMany}
 use Rattle.command.specs.Commands.{codesOf, numbersOf}
 use Rattle.command.specs.Outcomes.{Outcome, refused, accepted, mapped, listOf, _gives_, checked}
 use Rattle.command.proofs.Outcomes.{refused-accepted}
 use Rattle.path.specs.Path.{pathCommands}
 use Rattle.path.proofs.Counts.{path-codes, path-numbers}
 use Rattle.rect.specs.declared.Bounds.{Bounds}
-use Rattle.rect.specs.Bounds.{rectBounds}
 use Rattle.rect.specs.Rect.{epsilon, cornerRadius, plainRect, roundRect, rectPath}
+use Rattle.ellipse.specs.Ellipse.{ellipsePath}
 use Rattle.shape.specs.declared.Shape.{Shape}
-use Rattle.shape.specs.declared.Shape.the-variants.{Path, Rect}
-use Rattle.shape.specs.Shape.{shapeCommands}
+use Rattle.shape.specs.declared.Shape.the-variants.{Path, Ellipse}
+use Rattle.shape.specs.Shape.{boundsOf, shapeCommands}
 use Rattle.item.specs.declared.ItemRow.{ItemRow}
-use Rattle.item.specs.Rows.{isPath, isRect}
+use Rattle.item.specs.Rows.{isPath, entriesOf}
 use Rattle.draw.specs.Paths.{pathChecks, drawPath}
-use Rattle.draw.specs.Items.{itemShape, shapeDrawn, drawSource}
+use Rattle.draw.specs.Items.{rectOf, itemShape, shapeDrawn, drawSource}
+use Rattle.draw.proofs.ByKind.{kinds-hold}
 use Rattle.draw.proofs.Sources.{drawn-path, drawn-source}
 use Rattle.estimate.specs.Estimate.{trayEstimate}
 use Rattle.estimate.proofs.Ways.{few}
@@ -68,36 +69,49 @@ module _ (row : ItemRow) (items : List Float) (cs : List PathCommand) (e : drawS
   abbrev v : List Float
   v = drop (row .place) items
 
-  abbrev rect : Shape
-  rect = Rect (cornerRadius (getD v 2 nan) (getD v 3 nan) (getD v 4 nan))
+  -- the commands of a shape, where they are the row's
+  abbrev Drawn : Outcome Shape → Type 0
+  Drawn o = mapped (λ (s : Shape). shapeCommands s v) o ≡ accepted cs
 
-  drawn-as : (a b : Bool) → isPath row ≡ a → isRect row ≡ b
-      → mapped (λ (s : Shape). shapeCommands s v) (cond a (accepted (Path (row .mark) (row .count))) (cond b (accepted rect) (refused Unsupported))) ≡ accepted cs
-  unfolding shapeDrawn itemShape
-  drawn-as a b p q = rw (← p, ← q) (drawn-source row items cs e .drawn)
+  drawn : Drawn (itemShape row v)
+  unfolding shapeDrawn
+  drawn = drawn-source row items cs e .drawn
+
+  not-both : {A : Type 0} → isPath row ≡ true → isPath row ≡ false → A
+  not-both p q = absurd (true≢false (sym p ∙ q))
 
   pub row-enough : isPath row ≡ true → Enough (row .count) cs
   unfolding shapeCommands
-  row-enough path =
-      let P = drawn-source row items cs e .passed in
-      let some : (isPath row && eqb (row .count) 0) ≡ false = P .some in
-      let one : row .count ≡ 0 → ⊥ = eqb-false (row .count) 0 (rw path at some) in
-      let is : pathCommands (row .mark) v (row .count) ≡ cs = ap listOf (drawn-as true (isRect row) path refl) in
-      rw (← is) (path-enough (row .mark) v (row .count) (omega arith) (P .few))
+  row-enough path = kinds-hold (λ (o : Outcome Shape). Drawn o → Enough (row .count) cs) row v vertices (λ p n d. not-both path p) (λ p n d. not-both path p) (λ r d. refused-accepted r cs d) drawn
+    where
+      vertices : isPath row ≡ true → entriesOf row ≡ 6 * row .count → Drawn (accepted (Path (row .mark) (row .count))) → Enough (row .count) cs
+      vertices p n d =
+          let P = drawn-source row items cs e .passed in
+          let some : (isPath row && eqb (row .count) 0) ≡ false = P .some in
+          let one : row .count ≡ 0 → ⊥ = eqb-false (row .count) 0 (rw path at some) in
+          let is : pathCommands (row .mark) v (row .count) ≡ cs = ap listOf d in
+          rw (← is) (path-enough (row .mark) v (row .count) (omega arith) (P .few))
 
-  pub rectangle-enough : isPath row ≡ false → (length (codesOf cs) ≤ 10) × (length (numbersOf cs) ≤ 34)
-  unfolding shapeCommands rectPath
-  rectangle-enough other = go (isRect row) refl
+  -- the room of a rectangle with round corners; an ellipse has less
+  abbrev Room : Type 0
+  Room = (length (codesOf cs) ≤ 10) × (length (numbersOf cs) ≤ 34)
+
+  pub other-enough : isPath row ≡ false → Room
+  unfolding shapeCommands rectPath ellipsePath
+  other-enough other = kinds-hold (λ (o : Outcome Shape). Drawn o → Room) row v (λ p n d. not-both p other) rectangle ellipse (λ r d. refused-accepted r cs d) drawn
     where
       rect-few : (b : Bool) (box : Bounds) (q : Float)
           → (length (codesOf (cond b (plainRect box) (roundRect box q))) ≤ 10) × (length (numbersOf (cond b (plainRect box) (roundRect box q))) ≤ 34)
       rect-few true box q = unfold plainRect in (omega arith, omega arith)
       rect-few false box q = unfold roundRect in (omega arith, omega arith)
 
-      go : (b : Bool) → isRect row ≡ b → (length (codesOf cs) ≤ 10) × (length (numbersOf cs) ≤ 34)
-      go true p =
+      rectangle : isPath row ≡ false → entriesOf row ≡ 5 → Drawn (accepted (rectOf v)) → Room
+      rectangle p n d =
           let q = cornerRadius (getD v 2 nan) (getD v 3 nan) (getD v 4 nan) in
-          let box = rectBounds (getD v 0 nan) (getD v 1 nan) (getD v 2 nan) (getD v 3 nan) in
-          let is : cond (le q epsilon) (plainRect box) (roundRect box q) ≡ cs = ap listOf (drawn-as false true other p) in
-          rw (← is) (rect-few (le q epsilon) box q)
-      go false p = refused-accepted Unsupported cs (drawn-as false false other p)
+          let is : cond (le q epsilon) (plainRect (boundsOf v)) (roundRect (boundsOf v) q) ≡ cs = ap listOf d in
+          rw (← is) (rect-few (le q epsilon) (boundsOf v) q)
+
+      ellipse : isPath row ≡ false → entriesOf row ≡ 4 → Drawn (accepted Ellipse) → Room
+      ellipse p n d =
+          let is : ellipsePath (getD v 0 nan) (getD v 1 nan) (getD v 2 nan) (getD v 3 nan) ≡ cs = ap listOf d in
+          rw (← is) (omega arith, omega arith)

@@ -3,7 +3,7 @@ use mathlib.Core.Path.{_≡_}
 use mathlib.Core.Bool.{true, false}
 use Prim.Native.Nat.{_*_}
 use Rattle.item.specs.declared.ItemRow.{ItemRow}
-use Rattle.item.specs.Rows.{isPath, isRect, entriesOf}
+use Rattle.item.specs.Rows.{isPath, isRect, isEllipse, entriesOf}
 
 pub entries-path : (row : ItemRow) → isPath row ≡ true → entriesOf row ≡ 6 * row .count
 unfolding entriesOf
@@ -13,6 +13,10 @@ pub entries-rect : (row : ItemRow) → isPath row ≡ false → isRect row ≡ t
 unfolding entriesOf
 entries-rect row a b = rw (a, b)
 
-pub entries-none : (row : ItemRow) → isPath row ≡ false → isRect row ≡ false → entriesOf row ≡ 0
+pub entries-ellipse : (row : ItemRow) → isPath row ≡ false → isRect row ≡ false → isEllipse row ≡ true → entriesOf row ≡ 4
 unfolding entriesOf
-entries-none row a b = rw (a, b)
+entries-ellipse row a b c = rw (a, b, c)
+
+pub entries-none : (row : ItemRow) → isPath row ≡ false → isRect row ≡ false → isEllipse row ≡ false → entriesOf row ≡ 0
+unfolding entriesOf
+entries-none row a b c = rw (a, b, c)

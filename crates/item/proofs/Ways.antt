@@ -8,7 +8,7 @@ use lib.Dec.{eqb, leb}
 use borrow.Author.Tests.{eq-eqb, ne-eqb, lt-leb, le-leb}
 use Rattle.item.specs.declared.ItemRow.{ItemRow}
 use Rattle.item.specs.Rows.{isMark, isListed, entriesOf}
-use Rattle.item.proofs.Entries.{entries-path, entries-rect, entries-none}
+use Rattle.item.proofs.Entries.{entries-path, entries-rect, entries-ellipse, entries-none}
 
 -- ---- is_mark
 module _ (kind mark : ℕ) where
@@ -66,7 +66,11 @@ module _ (row : ItemRow) where
   pub rect-entries : row .kind ≡ 2 → 5 ≡ entriesOf row
   rect-entries e = sym (entries-rect row (ne-eqb (row .kind) 1 (λ h. omega arith)) (eq-eqb (row .kind) 2 e))
 
-  pub no-entries : (row .kind ≡ 1 → ⊥) → (row .kind ≡ 2 → ⊥) → 0 ≡ entriesOf row
-  no-entries a b = sym (entries-none row (ne-eqb (row .kind) 1 a) (ne-eqb (row .kind) 2 b))
+  pub ellipse-entries : row .kind ≡ 3 → 4 ≡ entriesOf row
+  ellipse-entries e =
+      sym (entries-ellipse row (ne-eqb (row .kind) 1 (λ h. omega arith)) (ne-eqb (row .kind) 2 (λ h. omega arith)) (eq-eqb (row .kind) 3 e))
 
-pub ruleset entries = (path-entries, rect-entries, no-entries)
+  pub no-entries : (row .kind ≡ 1 → ⊥) → (row .kind ≡ 2 → ⊥) → (row .kind ≡ 3 → ⊥) → 0 ≡ entriesOf row
+  no-entries a b c = sym (entries-none row (ne-eqb (row .kind) 1 a) (ne-eqb (row .kind) 2 b) (ne-eqb (row .kind) 3 c))
+
+pub ruleset entries = (path-entries, rect-entries, ellipse-entries, no-entries)

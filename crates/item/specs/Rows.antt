@@ -25,6 +25,9 @@ isPath row = eqb (row .kind) 1
 abbrev pub isRect : ItemRow → Bool
 isRect row = eqb (row .kind) 2
 
+abbrev pub isEllipse : ItemRow → Bool
+isEllipse row = eqb (row .kind) 3
+
 -- what can be drawn: sh, rc, el, sr
 abbrev pub isSource : ItemRow → Bool
 isSource row = leb 1 (row .kind) && leb (row .kind) 4
@@ -61,9 +64,10 @@ isListed row =
     leb 1 (row .kind) && leb (row .kind) 14 && leb (row .hidden) 1 && isMark (row .kind) (row .mark)
     && (isPath row || eqb (row .count) 0)
 
--- how many numbers a row has in the item list: six a vertex for sh; centre, size and roundness for rc; a kind that is not drawn has none
+-- how many numbers a row has in the item list: six a vertex for sh; centre, size and roundness for rc; centre and size for el; a kind that is not drawn has none
 unfoldable pub entriesOf : ItemRow → ℕ
 entriesOf row =
     cond (isPath row) (6 * row .count)
     (cond (isRect row) 5
-    0)
+    (cond (isEllipse row) 4
+    0))

@@ -72,6 +72,7 @@ pub fn entries_of(row: ItemRow) -> usize
     match kind {
         1 => 6 * row.count,
         2 => 5,
+        3 => 4,
         _ => 0,
     }
 }

@@ -2,22 +2,23 @@
 use mathlib.Core.Path.{_≡_, refl}
 use mathlib.Core.List.{List, [], _∷_, _++_}
 use Prim.Native.Nat.{ℕ}
-use lib.Ieee.{Float, nan, binary32, mul, lt, le, neg, sum, round, units, size, span, climb, odd, ofBits, ofFields, isNan}
+use lib.Ieee.{Float, nan, binary32, mul, lt, le, sub, neg, sum, round, units, size, span, climb, odd, ofBits, ofFields, isNan}
 use Rattle.ieee.specs.Choice.{min, clamp}
 use Rattle.ieee.specs.Fused.{fma}
-use Rattle.command.specs.declared.PathCommand.the-variants.{Move, Line, Close}
+use Rattle.command.specs.declared.PathCommand.the-variants.{Move, Line, Cubic, Close}
 use Rattle.command.specs.declared.Refusal.the-variants.{Empty, TooMany, OutOfRange, Unsupported, NotMergeable, OutOfBounds}
 use Rattle.command.specs.Outcomes.{refused, accepted}
 use Rattle.path.specs.Path.{pathCommands}
 use Rattle.rect.specs.Bounds.{rectBounds}
 use Rattle.rect.specs.Rect.{cornerRadius, rectPath}
+use Rattle.ellipse.specs.Ellipse.{tangentOn, ellipsePath}
 use Rattle.join.specs.Merge.{drawMerge}
 
 -- an f32 by its bit pattern
 abbrev f : ℕ → Float
 f n = ofBits binary32 n
 
--- the six entries of a visible row at depth 0: an open path of so many vertices at a place, a rectangle and an ellipse at a place, and an mm of mode 1
+-- the six entries of a visible row at depth 0: an open path of so many vertices at a place, a rectangle, an ellipse and a polystar at a place, and an mm of mode 1
 abbrev path : ℕ → ℕ → List ℕ
 path place count = 1 ∷ 0 ∷ 0 ∷ 0 ∷ place ∷ count ∷ []
 
@@ -26,6 +27,9 @@ rectangle place = 2 ∷ 0 ∷ 0 ∷ 0 ∷ place ∷ 0 ∷ []
 
 abbrev ellipse : ℕ → List ℕ
 ellipse place = 3 ∷ 0 ∷ 0 ∷ 0 ∷ place ∷ 0 ∷ []
+
+abbrev polystar : ℕ → List ℕ
+polystar place = 4 ∷ 0 ∷ 0 ∷ 0 ∷ place ∷ 0 ∷ []
 
 abbrev hiddenRectangle : ℕ → List ℕ
 hiddenRectangle place = 2 ∷ 1 ∷ 0 ∷ 0 ∷ place ∷ 0 ∷ []
@@ -47,6 +51,19 @@ two : drawMerge (rectangle 5 ++ rectangle 0 ++ merge) 3 rectangles
 unfolding drawMerge rectBounds cornerRadius rectPath fma min clamp mul lt le neg sum round units size span climb odd ofBits ofFields isNan
 two = refl
 
+-- an ellipse is a source too; that of the last four numbers is flat, since its height is 0. With the tangents k = 0.5522848 times 2 and 0
+flat-ellipse : drawMerge (path 0 1 ++ ellipse 6 ++ merge) 3 rectangles
+    ≡ accepted (
+    Move (f 0) (f 0) ∷ Line (f 0) (f 0)
+    ∷ Move (f 0) (f 0x4000_0000)
+    ∷ Cubic (f 0x3f8d_6289) (f 0x4000_0000) (f 0x4000_0000) (f 0x4000_0000) (f 0x4000_0000) (f 0x4000_0000)
+    ∷ Cubic (f 0x4000_0000) (f 0x4000_0000) (f 0x3f8d_6289) (f 0x4000_0000) (f 0) (f 0x4000_0000)
+    ∷ Cubic (f 0xbf8d_6289) (f 0x4000_0000) (f 0xc000_0000) (f 0x4000_0000) (f 0xc000_0000) (f 0x4000_0000)
+    ∷ Cubic (f 0xc000_0000) (f 0x4000_0000) (f 0xbf8d_6289) (f 0x4000_0000) (f 0) (f 0x4000_0000)
+    ∷ Close ∷ [])
+unfolding drawMerge pathCommands rectBounds tangentOn ellipsePath fma mul le sub neg sum round units size span climb odd ofBits ofFields
+flat-ellipse = refl
+
 -- a path of one vertex is a move and a line to it; a hidden row between draws nothing, and its place is not looked at
 points : drawMerge (path 0 1 ++ hiddenRectangle 99 ++ path 4 1 ++ merge) 4 rectangles
     ≡ accepted (Move (f 0) (f 0) ∷ Line (f 0) (f 0) ∷ Move (f 0) (f 0x4000_0000) ∷ Line (f 0) (f 0x4000_0000) ∷ [])
@@ -62,10 +79,14 @@ nan-first : drawMerge (rectangle 0 ++ rectangle 7 ++ merge) 3 (nan ∷ rectangle
 unfolding drawMerge le
 nan-first = refl
 
--- an ellipse is 5 before its place is looked at; a path without vertices is 1, and one of 1,025 is 2
-unsupported : drawMerge (path 0 1 ++ ellipse 99 ++ merge) 3 rectangles ≡ refused Unsupported
+-- a polystar is 5 before its place is looked at; an ellipse whose numbers are not there is 12; a path without vertices is 1, and one of 1,025 is 2
+unsupported : drawMerge (path 0 1 ++ polystar 99 ++ merge) 3 rectangles ≡ refused Unsupported
 unfolding drawMerge le ofBits ofFields
 unsupported = refl
+
+ellipse-outside : drawMerge (path 0 1 ++ ellipse 7 ++ merge) 3 rectangles ≡ refused OutOfBounds
+unfolding drawMerge le ofBits ofFields
+ellipse-outside = refl
 
 no-vertices : drawMerge (path 0 1 ++ path 99 0 ++ merge) 3 rectangles ≡ refused Empty
 unfolding drawMerge le ofBits ofFields

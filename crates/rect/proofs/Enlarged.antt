@@ -3,7 +3,7 @@ use mathlib.Core.Path.{refl, sym, subst}
 use mathlib.Core.Bool.{false}
 use Prim.Native.Nat.{ℕ, _*_, _^_, _≤_}
 use native.Mathlib.Omega.{arith}
-use lib.Dec.{T, leb, lit≤, lit<}
+use lib.Dec.{lit≤, lit<}
 use lib.Pow.{pow-pos}
 use lib.Ieee.{Float, neg, ofBits, binary32}
 use lib.Ieee.Exact.{HasValue}
@@ -14,20 +14,16 @@ use Rattle.ieee.specs.Choice.{min}
 use Rattle.ieee.specs.Grid.{On, Twin}
 use Rattle.ieee.proofs.Cut.{cut-exact}
 use Rattle.ieee.proofs.Operations.{sub-is}
-use Rattle.ieee.proofs.Twins.{finer, zero-twin, twin-abs, twin-add, twin-sub, twin-mul, twin-min, twin-clamp}
+use Rattle.ieee.proofs.Twins.{finer, zero-twin, twin-abs, twin-add, twin-sub, twin-min, twin-clamp}
 use Rattle.ieee.proofs.Counted.{Counted, counted, counted-neg, counted-add}
 use Rattle.ieee.proofs.Limits.{twin-le-small}
 use Rattle.command.specs.Enlarged.{Twins}
 use Rattle.command.proofs.Enlarged.{twin-close, twin-move, twin-line, twin-cubic, twins-none, twins-cons, twins-choice}
 use Rattle.rect.specs.declared.Bounds.{Bounds}
 use Rattle.rect.specs.Bounds.{half, rectBounds}
-use Rattle.rect.specs.Rect.{roundRectKappa, epsilon, cornerRadius, plainRect, tangentOf, roundRect, rectPath}
-use Rattle.rect.proofs.Box.{half-on, BoundsTwin, bounds-twin}
-
--- ---- the constants
-kappa-on : On 24 0 roundRectKappa
-unfolding ofBits
-kappa-on = record { sign = false; count = 9265801; value = (refl, refl); bound = lit≤ tt }
+use Rattle.rect.specs.Rect.{epsilon, cornerRadius, plainRect, roundRect, rectPath}
+use Rattle.rect.proofs.Box.{BoundsTwin, bounds-twin}
+use Rattle.rect.proofs.Tangent.{half-twin, tangent-twin, number-twin, plus-tangent, less-tangent}
 
 epsilon-value : HasValue epsilon false 1 (2 ^ 23)
 unfolding ofBits
@@ -70,8 +66,7 @@ module _ {k : ℕ} (K : k ≤ 6) where
   unfolding cornerRadius
   corner-twin {w} {w'} {h} {h'} {r} {r'} W H R =
       let smaller = twin-min k 10 13 (abs w) (abs w') (abs h) (abs h') (twin-abs k 10 13 w w' W) (twin-abs k 10 13 h h' H) in
-      let most = twin-mul binary32 k 10 13 1 0 (min (abs w) (abs h)) (min (abs w') (abs h')) half (lit≤ tt) (omega arith) smaller half-on in
-      twin-clamp k 11 13 zero32 zero32 (min (abs w) (abs h) ⊗ half) (min (abs w') (abs h') ⊗ half) r r' (zero-twin k 11 13) most
+      twin-clamp k 11 13 zero32 zero32 (min (abs w) (abs h) ⊗ half) (min (abs w') (abs h') ⊗ half) r r' (zero-twin k 11 13) (half-twin K smaller)
       (finer 11 13 (lit≤ tt) (lit≤ tt) R)
 
   rect-twin : {cx cx' cy cy' w w' h h' r r' : Float} → Twin k 10 13 cx cx' → Twin k 10 13 cy cy' → Twin k 10 13 w w' → Twin k 10 13 h h' → Twin k 10 13 r r'
@@ -88,50 +83,36 @@ module _ {k : ℕ} (K : k ≤ 6) where
       }
 
   -- ---- the commands
-  -- a number of the box's grid as one of the commands'
-  number : {b : ℕ} {x x' : Float} → Twin k 11 b x x' → T (leb b 16) → Twin k 35 16 x x'
-  number X t = finer 35 16 (lit≤ tt) (lit≤ t) X
-
   plain-twins : {box box' : Bounds} → BoundsTwin k box box' → Twins k 35 16 (plainRect box) (plainRect box')
   unfolding plainRect
   plain-twins B =
-      let l = number (B .left-twin) tt in
-      let t = number (B .top-twin) tt in
-      let r = number (B .right-twin) tt in
-      let b = number (B .bottom-twin) tt in
+      let l = number-twin (B .left-twin) tt in
+      let t = number-twin (B .top-twin) tt in
+      let r = number-twin (B .right-twin) tt in
+      let b = number-twin (B .bottom-twin) tt in
       twins-cons (twin-move l t) (twins-cons (twin-line r t) (twins-cons (twin-line r b) (twins-cons (twin-line l b) (twins-cons twin-close twins-none))))
 
   module _ {box box' : Bounds} {q q' : Float} (R : RectTwin k box box' q q') where
-    tangent-twin : Twin k 35 15 (tangentOf q) (tangentOf q')
-    tangent-twin = finer 35 15 (lit≤ tt) (lit≤ tt) (twin-mul binary32 k 11 13 24 0 q q' roundRectKappa (lit≤ tt) (omega arith) (R .radius-twin) kappa-on)
-
-    -- an end plus the radius; that, or an end less the radius, plus or less the tangent
+    -- a side plus the radius
     plus-radius : {x x' : Float} → Twin k 11 14 x x' → Twin k 11 15 (x ⊕ q) (x' ⊕ q')
     plus-radius {x} {x'} X = twin-add binary32 k 11 14 x x' q q' (lit≤ tt) (omega arith) X (finer 11 14 (lit≤ tt) (lit≤ tt) (R .radius-twin))
-
-    plus-tangent : {x x' : Float} → Twin k 11 15 x x' → Twin k 35 16 (x ⊕ tangentOf q) (x' ⊕ tangentOf q')
-    plus-tangent {x} {x'} X =
-        twin-add binary32 k 35 15 x x' (tangentOf q) (tangentOf q') (lit≤ tt) (omega arith) (finer 35 15 (lit≤ tt) (lit≤ tt) X) tangent-twin
-
-    less-tangent : {x x' : Float} → Twin k 11 15 x x' → Twin k 35 16 (x ⊖ tangentOf q) (x' ⊖ tangentOf q')
-    less-tangent {x} {x'} X =
-        twin-sub binary32 k 35 15 x x' (tangentOf q) (tangentOf q') (lit≤ tt) (omega arith) (finer 35 15 (lit≤ tt) (lit≤ tt) X) tangent-twin
 
     round-twins : Twins k 35 16 (roundRect box q) (roundRect box' q')
     unfolding roundRect
     round-twins =
-        let l = number (R .sides .left-twin) tt in
-        let t = number (R .sides .top-twin) tt in
-        let r = number (R .sides .right-twin) tt in
-        let b = number (R .sides .bottom-twin) tt in
-        let lq = number (plus-radius (R .sides .left-twin)) tt in
-        let tq = number (plus-radius (R .sides .top-twin)) tt in
-        let rq = number (R .right-inner) tt in
-        let bq = number (R .bottom-inner) tt in
-        let ls = less-tangent (plus-radius (R .sides .left-twin)) in
-        let ts = less-tangent (plus-radius (R .sides .top-twin)) in
-        let rs = plus-tangent (R .right-inner) in
-        let bs = plus-tangent (R .bottom-inner) in
+        let l = number-twin (R .sides .left-twin) tt in
+        let t = number-twin (R .sides .top-twin) tt in
+        let r = number-twin (R .sides .right-twin) tt in
+        let b = number-twin (R .sides .bottom-twin) tt in
+        let lq = number-twin (plus-radius (R .sides .left-twin)) tt in
+        let tq = number-twin (plus-radius (R .sides .top-twin)) tt in
+        let rq = number-twin (R .right-inner) tt in
+        let bq = number-twin (R .bottom-inner) tt in
+        let tangent = tangent-twin K (R .radius-twin) in
+        let ls = less-tangent K (plus-radius (R .sides .left-twin)) tangent in
+        let ts = less-tangent K (plus-radius (R .sides .top-twin)) tangent in
+        let rs = plus-tangent K (R .right-inner) tangent in
+        let bs = plus-tangent K (R .bottom-inner) tangent in
         twins-cons (twin-move lq t)
         (twins-cons (twin-line rq t)
         (twins-cons (twin-cubic rs t r ts r tq)

@@ -1,5 +1,6 @@
 -- What the proofs of `rect` cite.
 pub mod Box
+pub mod Tangent
 pub mod Enlarged
 pub mod Numbers
 pub mod Sound

@@ -3,13 +3,14 @@ use mathlib.Core.Bool.{Bool, true, false, cond}
 use mathlib.Core.List.{List}
 use Prim.Native.Nat.{_≤_}
 use native.Mathlib.Omega.{arith}
-use lib.ListN.{length}
-use lib.Ieee.{Float, le}
+use lib.ListN.{length, getD}
+use lib.Ieee.{Float, nan, le}
 use Rattle.path.proofs.Paths.{pathCommands-few}
 use Rattle.rect.specs.declared.Bounds.{Bounds}
 use Rattle.rect.specs.Rect.{epsilon, rectPath, plainRect, roundRect}
+use Rattle.ellipse.proofs.Ways.{ellipse-count}
 use Rattle.shape.specs.declared.Shape.{Shape}
-use Rattle.shape.specs.declared.Shape.the-variants.{Path, Rect}
+use Rattle.shape.specs.declared.Shape.the-variants.{Path, Rect, Ellipse}
 use Rattle.shape.specs.Shape.{boundsOf, shapeCommands, Fit}
 
 rect-few : (box : Bounds) (radius : Float) → length (rectPath box radius) ≤ 1026
@@ -24,3 +25,4 @@ pub few : (s : Shape) (v : List Float) → Fit s v → length (shapeCommands s v
 unfolding shapeCommands
 few (Path closed count) v f = pathCommands-few closed v count (f .some) (f .few)
 few (Rect radius) v f = rect-few (boundsOf v) radius
+few Ellipse v f = omega (arith, ellipse-count (getD v 0 nan) (getD v 1 nan) (getD v 2 nan) (getD v 3 nan))

@@ -11,7 +11,7 @@ use lib.Dec.{leb}
 use lib.Seq.{sets}
 use borrow.Author.Tests.{lt-leb, le-leb, leb-true}
 use lib.ListN.{length, getD}
-use lib.Ieee.{Float, le}
+use lib.Ieee.{Float, nan, le}
 use Rattle.command.specs.declared.PathCommand.{PathCommand}
 use Rattle.command.specs.declared.PathCommand.the-variants.{Close}
 use Rattle.command.specs.declared.Refusal.the-variants.{BufferTooSmall}
@@ -27,8 +27,10 @@ use Rattle.path.proofs.Counts.{path-numbers}
 use Rattle.rect.specs.declared.Bounds.{Bounds}
 use Rattle.rect.specs.Rect.{epsilon, plainRect, roundRect, rectPath}
 use Rattle.rect.proofs.Ways.{rect-plain, rect-round}
+use Rattle.ellipse.specs.Ellipse.{ellipseIn, ellipsePath}
+use Rattle.ellipse.proofs.Ways.{ellipse-count, ellipse-numbers}
 use Rattle.shape.specs.declared.Shape.{Shape}
-use Rattle.shape.specs.declared.Shape.the-variants.{Path, Rect}
+use Rattle.shape.specs.declared.Shape.the-variants.{Path, Rect, Ellipse}
 use Rattle.shape.specs.Shape.{boundsOf, shapeCommands, Fit}
 use Rattle.shape.proofs.Few.{few}
 
@@ -102,6 +104,24 @@ command-is cs ds k r e f = rw e f
 pub rect-fit : (s : Shape) (v : List Float) (radius : Float) → s ≡ Rect radius → Fit s v → Fit (Rect radius) v
 rect-fit s v radius is fit = rw is at fit
 
+-- ---- an ellipse
+module _ (v : List Float) where
+  pub ellipse-six : 6 ≡ length (shapeCommands Ellipse v)
+  unfolding shapeCommands
+  ellipse-six = sym (ellipse-count (getD v 0 nan) (getD v 1 nan) (getD v 2 nan) (getD v 3 nan))
+
+  pub ellipse-few : 26 ≡ length (numbersOf (shapeCommands Ellipse v))
+  unfolding shapeCommands
+  ellipse-few = sym (ellipse-numbers (getD v 0 nan) (getD v 1 nan) (getD v 2 nan) (getD v 3 nan))
+
+  pub ellipse-is : (b : Bounds) (cx cy w h : Float) → b ≡ boundsOf v → cx ≡ getD v 0 nan → cy ≡ getD v 1 nan → w ≡ getD v 2 nan → h ≡ getD v 3 nan
+      → shapeCommands Ellipse v ≡ ellipseIn b cx cy w h
+  unfolding shapeCommands ellipsePath
+  ellipse-is b cx cy w h here x y width height = rw (here, x, y, width, height)
+
+pub ellipse-fit : (s : Shape) (v : List Float) → s ≡ Ellipse → Fit s v → Fit Ellipse v
+ellipse-fit s v is fit = rw is at fit
+
 -- ---- the arms of a match on the kind: room for a shape is room for the kind that it is, and what that kind has and writes the shape has and writes
 module _ (s t : Shape) (is : s ≡ t) (v : List Float) where
   pub count-is : (n : ℕ) → n ≡ length (shapeCommands t v) → n ≡ length (shapeCommands s v)
@@ -133,16 +153,20 @@ module _ (s t : Shape) (is : s ≡ t) (v : List Float) where
 pub exact-enough : (a n : ℕ) → n ≡ a → a ≤ n
 exact-enough a n e = omega arith
 
--- all that the loops over a path and over a rectangle ask, and all that the matches on the kind ask
+-- all that the loops over a path, over a rectangle and over an ellipse ask, and all that the matches on the kind ask
 pub ruleset path-loops = (path-count, path-command, path-size, counts, writes, few)
 
 pub ruleset rect-loops = (plain-is, plain-five, round-is, round-ten, command-is, writes)
+
+pub ruleset ellipse-loops = (ellipse-is, ellipse-six, command-is, writes)
 
 pub ruleset path-arms = (path-fit, path-few, path-count, six-fits, two-more-fit, path-enough)
 
 pub ruleset rect-arms = (rect-fit, rect-count, rect-numbers, exact-enough)
 
-pub ruleset arms = (path-arms, rect-arms, count-is, numbers-are, enough, codes-room, numbers-room, place-is, codes-are, written)
+pub ruleset ellipse-arms = (ellipse-fit, ellipse-six, ellipse-few)
+
+pub ruleset arms = (path-arms, rect-arms, ellipse-arms, count-is, numbers-are, enough, codes-room, numbers-room, place-is, codes-are, written)
 
 -- ---- need_of and numbers_fit
 pub room-is : (cs : List PathCommand) (n m : ℕ) → n ≡ length cs → m ≡ length (numbersOf cs) → accepted (n, m) ≡ accepted (roomOf cs)

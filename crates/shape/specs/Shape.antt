@@ -8,8 +8,9 @@ use Rattle.path.specs.Path.{pathCommands, Sound}
 use Rattle.rect.specs.declared.Bounds.{Bounds}
 use Rattle.rect.specs.Bounds.{rectBounds}
 use Rattle.rect.specs.Rect.{rectPath}
+use Rattle.ellipse.specs.Ellipse.{ellipsePath}
 use Rattle.shape.specs.declared.Shape.{Shape}
-use Rattle.shape.specs.declared.Shape.the-variants.{Path, Rect}
+use Rattle.shape.specs.declared.Shape.the-variants.{Path, Rect, Ellipse}
 
 -- the box whose centre and size are the first four numbers of v
 abbrev pub boundsOf : List Float → Bounds
@@ -19,8 +20,10 @@ boundsOf v = rectBounds (getD v 0 nan) (getD v 1 nan) (getD v 2 nan) (getD v 3 n
 unfoldable pub shapeCommands : Shape → List Float → List PathCommand
 shapeCommands (Path closed count) v = pathCommands closed v count
 shapeCommands (Rect radius) v = rectPath (boundsOf v) radius
+shapeCommands Ellipse v = ellipsePath (getD v 0 nan) (getD v 1 nan) (getD v 2 nan) (getD v 3 nan)
 
 -- what the checks leave to the drawing of a shape
 abbrev pub Fit : Shape → List Float → Type 0
 Fit (Path closed count) v = Sound v count
 Fit (Rect radius) v = 4 ≤ length v
+Fit Ellipse v = 4 ≤ length v

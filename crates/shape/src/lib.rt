@@ -10,7 +10,7 @@ ghost use lib.Seq.{sets};
 ghost use Rattle.command.specs.Commands.{codesOf, numbersOf};
 ghost use Rattle.command.specs.Outcomes.{accepted, countsOf, countsNumber, firstCount, secondCount};
 ghost use Rattle.command.specs.Buffers.{fitted, inBuffers, FilledBoth, roomOf};
-ghost use Rattle.shape.specs.declared.Shape.the-variants.{Path, Rect};
+ghost use Rattle.shape.specs.declared.Shape.the-variants.{Path, Rect, Ellipse};
 ghost use Rattle.shape.specs.Shape.{boundsOf, shapeCommands, Fit};
 
 // What is to be drawn, and what decides how much of it there is. Its numbers stand in a list beside it.
@@ -19,6 +19,8 @@ pub enum Shape {
     Path(u32, usize),
     // The radius of the corners. The list has the centre and the size.
     Rect(f32),
+    // The list has the centre and the size.
+    Ellipse,
 }
 
 // How many commands a shape has, whatever its numbers.
@@ -29,6 +31,7 @@ pub fn count_of(shape: Shape, list: &[f32]) -> usize
     match shape {
         Shape::Path(closed, count) => path::bezier_count(closed, count),
         Shape::Rect(radius) => rect::rect_count(radius),
+        Shape::Ellipse => 6,
     }
 }
 
@@ -55,6 +58,7 @@ pub fn numbers_of(shape: Shape, list: &[f32]) -> usize
     match shape {
         Shape::Path(closed, count) => path_numbers(closed, count, list),
         Shape::Rect(radius) => rect::rect_numbers(radius),
+        Shape::Ellipse => 26,
     }
 }
 
@@ -141,6 +145,31 @@ fn write_rect(
     at
 }
 
+// Writes an ellipse at places of buffers that it fits, and gives the place after its numbers.
+fn write_ellipse(list: &[f32], codes: &mut [u8], i: usize, numbers: &mut [f32], j: usize) -> usize
+    requires { ⌜ Fit Ellipse (now list) ⌝ }
+    requires { ⌜ i + length (codesOf (shapeCommands Ellipse (now list))) ≤ length (now codes) ⌝ }
+    requires { ⌜ j + length (numbersOf (shapeCommands Ellipse (now list))) ≤ length (now numbers) ⌝ }
+    ensures { λ r. ⌜ r ≡ j + length (numbersOf (shapeCommands Ellipse (now (list .entry)))) ⌝ }
+    ensures { λ _. ⌜ now (codes .exit) ≡ sets (now (codes .entry)) i (codesOf (shapeCommands Ellipse (now (list .entry)))) ⌝ }
+    ensures { λ _. ⌜ now (numbers .exit) ≡ sets (now (numbers .entry)) j (numbersOf (shapeCommands Ellipse (now (list .entry)))) ⌝ }
+{
+    let bounds = bounds_of(list);
+    let cx = list[0];
+    let cy = list[1];
+    let w = list[2];
+    let h = list[3];
+    let mut at = j;
+    let mut k: usize = 0;
+    while k < 6 {
+        let c = ellipse::ellipse_command(bounds, cx, cy, w, h, k);
+        codes[i + k] = command::code(c);
+        at = command::put_numbers(c, numbers, at);
+        k += 1;
+    }
+    at
+}
+
 // Writes a shape at places of buffers that it fits, and gives the place after its numbers.
 pub fn write_at(
     shape: Shape,
@@ -160,6 +189,7 @@ pub fn write_at(
     match shape {
         Shape::Path(closed, count) => write_path(closed, count, list, codes, i, numbers, j),
         Shape::Rect(radius) => write_rect(radius, list, codes, i, numbers, j),
+        Shape::Ellipse => write_ellipse(list, codes, i, numbers, j),
     }
 }
 
@@ -171,6 +201,7 @@ fn enough_for(shape: Shape, list: &[f32]) -> usize
     match shape {
         Shape::Path(_, count) => 6 * count + 2,
         Shape::Rect(radius) => rect::rect_numbers(radius),
+        Shape::Ellipse => 26,
     }
 }
 

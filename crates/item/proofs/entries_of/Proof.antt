@@ -16,5 +16,8 @@ returns-2 c = search (needs, entries)
 returns-3 : tie.Need-returns-3
 returns-3 c = search (needs, entries)
 
+returns-4 : tie.Need-returns-4
+returns-4 c = search (needs, entries)
+
 pub entries-of-spec : {M : Type 1} → statement M
-entries-of-spec = tie.close (tie.spec mul-result returns returns-2 returns-3)
+entries-of-spec = tie.close (tie.spec mul-result returns returns-2 returns-3 returns-4)

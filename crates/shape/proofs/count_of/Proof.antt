@@ -16,11 +16,17 @@ enum-known-shape-2 c = search needs
 rect-count-requires : tie.Need-rect-count-requires
 rect-count-requires c κs = search needs
 
+enum-told : tie.Need-enum-told
+enum-told c = search needs
+
 returns : tie.Need-returns
 returns c = search (needs, arms)
 
 returns-2 : tie.Need-returns-2
 returns-2 c = search (needs, arms)
+
+returns-3 : tie.Need-returns-3
+returns-3 c = search (needs, arms)
 
 pub count-of-spec : {M : Type 1} → statement M
 count-of-spec =
@@ -30,5 +36,7 @@ count-of-spec =
     bezier-count-requires
     enum-known-shape-2
     rect-count-requires
+    enum-told
     returns
-    returns-2)
+    returns-2
+    returns-3)

@@ -19,11 +19,17 @@ enum-known-shape-2 c = search needs
 rect-numbers-requires : tie.Need-rect-numbers-requires
 rect-numbers-requires c κs = search needs
 
+enum-told : tie.Need-enum-told
+enum-told c = search needs
+
 returns : tie.Need-returns
 returns c = search (needs, arms)
 
 returns-2 : tie.Need-returns-2
 returns-2 c = search (needs, arms)
+
+returns-3 : tie.Need-returns-3
+returns-3 c = search (needs, arms)
 
 pub enough-for-spec : {M : Type 1} → statement M
 enough-for-spec =
@@ -34,5 +40,7 @@ enough-for-spec =
     add-result
     enum-known-shape-2
     rect-numbers-requires
+    enum-told
     returns
-    returns-2)
+    returns-2
+    returns-3)

@@ -16,6 +16,12 @@ enum-known-shape-2 c = search needs
 write-rect-requires : tie.Need-write-rect-requires
 write-rect-requires c κs = search (needs, arms)
 
+enum-told : tie.Need-enum-told
+enum-told c = search needs
+
+write-ellipse-requires : tie.Need-write-ellipse-requires
+write-ellipse-requires c κs = search (needs, arms)
+
 same-length : tie.Need-same-length
 same-length c = search needs
 
@@ -34,6 +40,15 @@ same-length-4 c = search needs
 returns-2 : tie.Need-returns-2
 returns-2 c = search (needs, arms)
 
+same-length-5 : tie.Need-same-length-5
+same-length-5 c = search needs
+
+same-length-6 : tie.Need-same-length-6
+same-length-6 c = search needs
+
+returns-3 : tie.Need-returns-3
+returns-3 c = search (needs, arms)
+
 pub write-at-spec : {M : Type 1} → statement M
 write-at-spec =
     tie.close
@@ -42,9 +57,14 @@ write-at-spec =
     write-path-requires
     enum-known-shape-2
     write-rect-requires
+    enum-told
+    write-ellipse-requires
     same-length
     same-length-2
     returns
     same-length-3
     same-length-4
-    returns-2)
+    returns-2
+    same-length-5
+    same-length-6
+    returns-3)

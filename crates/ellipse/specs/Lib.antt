@@ -1,0 +1,2 @@
+-- The path of an ellipse.
+pub mod Ellipse

@@ -1,0 +1,33 @@
+// An ellipse as path commands, a command at a time: request U1 of document 02.
+use command::PathCommand;
+use rect::Bounds;
+ghost use mathlib.Core.Path.{_≡_};
+ghost use lib.ListN.{getD};
+ghost use Rattle.command.specs.declared.PathCommand.the-variants.{Close};
+ghost use Rattle.ellipse.specs.Ellipse.{tangentOn, ellipseIn};
+
+// The f32 nearest to document 02's 0.5522848.
+const KAPPA: f32 = 0.5522848;
+
+// How far the control points stand from the centre's coordinate, on the axis with this side.
+fn tangent_on(side: f32) -> f32
+    ensures { λ r. ⌜ r ≡ tangentOn side ⌝ }
+{
+    float::abs(side) * 0.5 * KAPPA
+}
+
+// The command at place k of the ellipse in a box, around a centre, with these sides.
+pub fn ellipse_command(bounds: Bounds, cx: f32, cy: f32, w: f32, h: f32, k: usize) -> PathCommand
+    ensures { λ r. ⌜ r ≡ getD (ellipseIn bounds cx cy w h) k Close ⌝ }
+{
+    let tx = tangent_on(w);
+    let ty = tangent_on(h);
+    match k {
+        0 => PathCommand::Move(cx, bounds.top),
+        1 => PathCommand::Cubic(cx + tx, bounds.top, bounds.right, cy - ty, bounds.right, cy),
+        2 => PathCommand::Cubic(bounds.right, cy + ty, cx + tx, bounds.bottom, cx, bounds.bottom),
+        3 => PathCommand::Cubic(cx - tx, bounds.bottom, bounds.left, cy + ty, bounds.left, cy),
+        4 => PathCommand::Cubic(bounds.left, cy - ty, cx - tx, bounds.top, cx, bounds.top),
+        _ => PathCommand::Close,
+    }
+}
