@@ -1,6 +1,6 @@
-/* A bag panel of a coin sorter, written to standard output as an SVG page. Each bag has a frame round its mouth, a ring
-   that shows how full it is, and a stack of coins. The panel is drawn at size 1, and from enlarged input at size 2. The
-   program compares the two and fails where the second is not the first, exactly enlarged.
+/* A bag panel of a coin sorter, written to standard output as an SVG page. Each bag has a frame with a mouth, square or
+   round, a ring that shows how full it is, and a stack of coins. The panel is drawn at size 1, and from enlarged input
+   at size 2. The program compares the two and fails where the second is not the first, exactly enlarged.
 
        gcc -std=c99 -Iinclude examples/panel.c target/staticlib/libjengafir.a -o panel && ./panel >panel.svg
 
@@ -25,10 +25,8 @@
 /* A multiple of 1/1024. On this grid a drawing enlarges exactly. */
 #define GRID(n) ((n) / 1024.0f)
 
-/* Tangents that make four cubics round: 0.5522848 of a radius of 20, of 18 and of 6, on the grid. */
+/* A tangent that makes four cubics round: 0.5522848 of a radius of 20, on the grid. */
 #define RING_TANGENT GRID(11311)
-#define COIN_TANGENT_X GRID(10180)
-#define COIN_TANGENT_Y GRID(3393)
 
 /* A mouth at size 1 is 64 by 64, and a stack 64 by 54. */
 #define MOUTH_HEIGHT 64
@@ -36,7 +34,8 @@
 #define MIDDLE 32
 #define COIN_Y 46
 
-/* The items of a bag at size 1: the frame's rectangles, and the ring and the coin from the right, clockwise. */
+/* The items of a bag at size 1: the frame's rectangle; its mouth, which is a rectangle, or an ellipse with no use for the
+   roundness; the ring as a path from the right, clockwise; and the coin, an ellipse. */
 static const float items[] = {
     MIDDLE, 32, 60, 60, 14,
     MIDDLE, 32, 52, 52, 10,
@@ -44,34 +43,44 @@ static const float items[] = {
     MIDDLE, 52, RING_TANGENT, 0, -RING_TANGENT, 0,
     MIDDLE - 20, 32, 0, RING_TANGENT, 0, -RING_TANGENT,
     MIDDLE, 12, -RING_TANGENT, 0, RING_TANGENT, 0,
-    MIDDLE + 18, COIN_Y, 0, -COIN_TANGENT_Y, 0, COIN_TANGENT_Y,
-    MIDDLE, COIN_Y + 6, COIN_TANGENT_X, 0, -COIN_TANGENT_X, 0,
-    MIDDLE - 18, COIN_Y, 0, COIN_TANGENT_Y, 0, -COIN_TANGENT_Y,
-    MIDDLE, COIN_Y - 6, -COIN_TANGENT_X, 0, COIN_TANGENT_X, 0,
+    MIDDLE, COIN_Y, 36, 12,
 };
 #define ITEMS COUNT(items)
 #define OUTER_PLACE 0
-#define INNER_PLACE 5
+#define MOUTH_PLACE 5
 #define RING_PLACE 10
 #define COIN_PLACE 34
 
-static const uint32_t frame_rows[][6] = {
-    {JENGAFIR_RC, 0, 0, 0, OUTER_PLACE, 0},
-    {JENGAFIR_RC, 0, 0, 0, INNER_PLACE, 0},
-    {JENGAFIR_MM, 0, 0, 1, 0, 0},
-    {JENGAFIR_FL, 0, 0, 0, 0, 0},
-};
+/* A frame is its rectangle and its mouth, merged. */
+enum { SQUARE, ROUND, MOUTHS };
+#define FRAME_ROWS 4
+#define FRAME(mouth)                            \
+    {                                           \
+        {JENGAFIR_RC, 0, 0, 0, OUTER_PLACE, 0}, \
+        {mouth, 0, 0, 0, MOUTH_PLACE, 0},       \
+        {JENGAFIR_MM, 0, 0, 1, 0, 0},           \
+        {JENGAFIR_FL, 0, 0, 0, 0, 0},           \
+    }
+static const uint32_t frame_rows[MOUTHS][FRAME_ROWS][6] = {FRAME(JENGAFIR_RC), FRAME(JENGAFIR_EL)};
 static const uint32_t ring_row[6] = {JENGAFIR_SH, 0, 0, 1, RING_PLACE, 4};
-static const uint32_t coin_row[6] = {JENGAFIR_SH, 0, 0, 1, COIN_PLACE, 4};
+static const uint32_t coin_row[6] = {JENGAFIR_EL, 0, 0, 0, COIN_PLACE, 0};
 
-/* How many coins a bag holds, from where its ring is shown, in degrees from the right, and the repeater's mode. */
+/* For how many vertices there has to be room: no rectangle needs more than eight, and an ellipse needs that of four. */
+#define FRAME_ROOM 8
+#define ROW_ROOM 4
+
+/* The form of a bag's mouth, how many coins it holds, from where its ring is shown, in degrees from the right, and the
+   repeater's mode. */
 typedef struct {
-    int coins;
+    int mouth, coins;
     float offset;
     uint8_t mode;
 } Bag;
 
-static const Bag bags[] = {{0, -90, 1}, {10, -90, 1}, {25, -90, 1}, {60, -90, 1}, {100, -90, 1}, {100, 0, 2}};
+static const Bag bags[] = {
+    {SQUARE, 0, -90, 1}, {ROUND, 10, -90, 1},  {SQUARE, 25, -90, 1},
+    {ROUND, 60, -90, 1}, {SQUARE, 100, -90, 1}, {ROUND, 100, 0, 2},
+};
 #define BAGS COUNT(bags)
 
 /* A command list in buffers of its own, and its length. */
@@ -94,7 +103,7 @@ typedef struct {
 
 typedef struct {
     int size;
-    Path frame, ring, coin;
+    Path frames[MOUTHS], ring, coin;
     float ring_start[2];
     Fill fills[BAGS];
 } Panel;
@@ -136,13 +145,12 @@ static void measure(Path *path)
     must_accept("jengafir_length", refusal);
 }
 
-/* The room of eight vertices is enough for a round rectangle. */
-static Path draw_frame(const float *enlarged)
+static Path draw_frame(const uint32_t rows[FRAME_ROWS][6], const float *enlarged)
 {
-    Path path = buffers(2, 8);
+    Path path = buffers(2, FRAME_ROOM);
     uint32_t refusal =
-        jengafir_merge(frame_rows[0], 6 * COUNT(frame_rows), COUNT(frame_rows), enlarged, ITEMS, path.codes,
-                       path.codes_len, path.numbers, path.numbers_len, &path.code_count, &path.number_count);
+        jengafir_merge(rows[0], 6 * FRAME_ROWS, FRAME_ROWS, enlarged, ITEMS, path.codes, path.codes_len, path.numbers,
+                       path.numbers_len, &path.code_count, &path.number_count);
     must_accept("jengafir_merge", refusal);
     measure(&path);
     return path;
@@ -150,7 +158,7 @@ static Path draw_frame(const float *enlarged)
 
 static Path draw_row(const uint32_t row[6], const float *enlarged)
 {
-    Path path = buffers(1, row[5]);
+    Path path = buffers(1, ROW_ROOM);
     uint32_t refusal =
         jengafir_draw_item(row, 6, enlarged, ITEMS, path.codes, path.codes_len, path.numbers, path.numbers_len,
                            &path.code_count, &path.number_count);
@@ -212,7 +220,8 @@ static void draw_panel(int size, Panel *panel)
     for (size_t i = 0; i < ITEMS; i++)
         enlarged[i] = items[i] * (float)size;
     panel->size = size;
-    panel->frame = draw_frame(enlarged);
+    for (size_t i = 0; i < MOUTHS; i++)
+        panel->frames[i] = draw_frame(frame_rows[i], enlarged);
     panel->ring = draw_row(ring_row, enlarged);
     panel->coin = draw_row(coin_row, enlarged);
     find_start(&panel->ring, panel->ring_start);
@@ -274,7 +283,8 @@ static void compare_stacks(const Fill *small, const Fill *large)
 
 static void compare(const Panel *small, const Panel *large)
 {
-    compare_paths(&small->frame, &large->frame);
+    for (size_t i = 0; i < MOUTHS; i++)
+        compare_paths(&small->frames[i], &large->frames[i]);
     compare_paths(&small->ring, &large->ring);
     compare_paths(&small->coin, &large->coin);
     must_enlarge("the start of the ring is not enlarged exactly", small->ring_start, large->ring_start, 2);
@@ -406,7 +416,7 @@ static void write_bag(const Panel *panel, size_t i, int top)
     int mouth_end = top + MOUTH_HEIGHT * panel->size;
     int stack_top = mouth_end + CAPTION_HEIGHT;
     printf("<g transform=\"translate(%d %d)\">\n", left, top);
-    write_frame(&panel->frame);
+    write_frame(&panel->frames[bags[i].mouth]);
     write_ring(panel, fill, bags[i].coins);
     printf("</g>\n");
     write_ring_caption(&bags[i], fill, middle, mouth_end + LINE);
@@ -418,9 +428,10 @@ static void write_bag(const Panel *panel, size_t i, int top)
 
 static void write_panel(const Panel *panel, int top)
 {
-    printf("<text x=\"%d\" y=\"%d\" font-weight=\"bold\" fill=\"" INK "\">Size %d: each frame measures %.9g, each ring "
-           "%.9g, each coin %.9g</text>\n",
-           MARGIN, top + LINE, panel->size, panel->frame.length, panel->ring.length, panel->coin.length);
+    printf("<text x=\"%d\" y=\"%d\" font-weight=\"bold\" fill=\"" INK "\">Size %d: a frame with a square mouth measures "
+           "%.9g, one with a round mouth %.9g, a ring %.9g, a coin %.9g</text>\n",
+           MARGIN, top + LINE, panel->size, panel->frames[SQUARE].length, panel->frames[ROUND].length,
+           panel->ring.length, panel->coin.length);
     for (size_t i = 0; i < BAGS; i++)
         write_bag(panel, i, top + HEADING_HEIGHT);
 }
@@ -428,10 +439,10 @@ static void write_panel(const Panel *panel, int top)
 static void write_title(void)
 {
     static const char *const lines[] = {
-        "A frame is two round rectangles, merged. A ring is one path, which starts at the dot, trimmed to the bag's "
-        "count: below it, its visible ranges,",
-        "as parts of the path, and how long they are. A stack is one coin, repeated: below it, the order in which the "
-        "copies are drawn.",
+        "A frame is a round rectangle and the bag's mouth, merged; the mouth is a rectangle or an ellipse.",
+        "A ring is one path, which starts at the dot, trimmed to the bag's count: below it, its visible ranges, as "
+        "parts of the path, and how long they are.",
+        "A stack is one coin, an ellipse, repeated: below it, the order in which the copies are drawn.",
     };
     printf("<text x=\"%d\" y=\"%d\" font-size=\"18\" font-weight=\"bold\" fill=\"" INK "\">The bag panel of a coin "
            "sorter</text>\n",
@@ -468,7 +479,7 @@ static void write_page(const Panel *small, const Panel *large)
 
 static void release(Panel *panel)
 {
-    Path *paths[] = {&panel->frame, &panel->ring, &panel->coin};
+    Path *paths[] = {&panel->frames[SQUARE], &panel->frames[ROUND], &panel->ring, &panel->coin};
     for (size_t i = 0; i < COUNT(paths); i++) {
         free(paths[i]->codes);
         free(paths[i]->numbers);

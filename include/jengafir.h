@@ -17,7 +17,7 @@ enum jengafir_refusal {
     JENGAFIR_TOO_MANY = 2,          /* too many vertices, rows, levels, commands or copies, or an offset over 4,096 */
     JENGAFIR_OUT_OF_RANGE = 3,      /* a number that is not finite, or over its limit */
     JENGAFIR_UNLISTED = 4,          /* a code, flag or mode that is not listed */
-    JENGAFIR_UNSUPPORTED = 5,       /* an ellipse, a polystar, or a repeater that rotates */
+    JENGAFIR_UNSUPPORTED = 5,       /* a polystar, or a repeater that rotates */
     JENGAFIR_BROKEN_NESTING = 6,    /* the first row is nested, or a row lies deeper than the row before it allows */
     JENGAFIR_NOT_MERGEABLE = 7,     /* no row merges the rows before it */
     JENGAFIR_TOO_SHORT = 8,         /* a path too short to be cut */
@@ -40,7 +40,7 @@ enum jengafir_code {
 enum jengafir_kind {
     JENGAFIR_SH = 1,    /* a path: its vertices, six numbers each as jengafir_draw_path reads them */
     JENGAFIR_RC = 2,    /* a rectangle: centre x, y; width, height; roundness */
-    JENGAFIR_EL = 3,    /* an ellipse, which is not drawn yet */
+    JENGAFIR_EL = 3,    /* an ellipse: centre x, y; width, height */
     JENGAFIR_SR = 4,    /* a polystar, which is not drawn yet */
     JENGAFIR_GR = 5,    /* a group: the rows after it that are deeper are in it */
     JENGAFIR_TR = 6,    /* a transform */
@@ -76,6 +76,9 @@ uint32_t jengafir_draw_path(uint32_t closed, const float *vertices, size_t verti
    A row is six entries: kind, hidden (0 or 1), depth (not read here), mark (for a path 0 if open and 1 if closed,
    else 0), place (where the row's numbers start in `items`), and count (the number of a path's vertices, else 0).
    Every number is at most 1,048,576 in absolute value.
+   Widths and heights are taken without their signs. A rectangle begins at the left of its upper side and goes round
+   clockwise, by the right (y points down): five commands with sharp corners, ten with round ones. An ellipse begins at
+   the top and goes round clockwise, by right, bottom and left: a move, four cubics and a close, flat where a side is 0.
    Reads the first six entries of `row`, and of `items` the numbers of this row alone.
    Refuses a row list of fewer than six entries with 12, and then by the first of these that holds: 4 for an entry
    of the row, a kind that is no shape among them, 5, 1, 2, 12, 3, 11. */
@@ -85,8 +88,8 @@ uint32_t jengafir_draw_item(const uint32_t *row, size_t row_len, const float *it
 
 /* Tells how much room to set aside for a drawing of `count` vertices, 1 to 1,024: count + 2 codes and 6 * count + 2
    numbers. jengafir_draw_path and jengafir_draw_item never write more for so many vertices, open or closed. A
-   rectangle has at most 10 codes and 34 numbers, for which the room of eight vertices is enough. jengafir_merge needs
-   at most the room of each of its sources, added up.
+   rectangle has at most 10 codes and 34 numbers, for which the room of eight vertices is enough, and an ellipse has 6
+   codes and 26 numbers, the room of four. jengafir_merge needs at most the room of each of its sources, added up.
    No pointer is null, and the two places do not overlap. Refuses no vertices with 1, and more than 1,024 with 2.
    On a refusal both are 0. */
 uint32_t jengafir_tray_estimate(size_t count, size_t *codes_needed, size_t *numbers_needed);

@@ -1,14 +1,16 @@
-//! Times drawing rectangles, through the C interface, against the Rust's own function over its stand-ins.
+//! Times drawing rectangles, through the C interface, against the Rust's own function over its stand-ins, and drawing
+//! ellipses, for which the Rust has no function.
 
 use crate::interface::jengafir_draw_item;
-use crate::timing::{compare, numbers_written};
+use crate::timing::{alone, compare, numbers_written};
 use crate::unit_numbers;
 use source::ShapeItem;
 use std::hint::black_box;
 
 pub const RC: u32 = 2;
+pub const EL: u32 = 3;
 const RECTANGLES: usize = 1_024;
-/// No rectangle has more codes or numbers.
+/// No rectangle or ellipse has more codes or numbers.
 const MOST_CODES: usize = 10;
 const MOST_NUMBERS: usize = 34;
 
@@ -32,9 +34,9 @@ pub fn rectangle(unit: &mut impl FnMut() -> f32, roundness: f32) -> Rectangle {
     Rectangle { numbers: [x, y, width, height, roundness], item }
 }
 
-/// Draws with ours, and gives how many numbers were written.
-fn draw(rectangle: &Rectangle, codes: &mut [u8], numbers: &mut [f32]) -> u32 {
-    let row = [RC, 0, 0, 0, 0, 0];
+/// Draws a rectangle, or the ellipse in it, with ours, and gives how many numbers were written.
+fn draw(kind: u32, rectangle: &Rectangle, codes: &mut [u8], numbers: &mut [f32]) -> u32 {
+    let row = [kind, 0, 0, 0, 0, 0];
     numbers_written(|codes_written, numbers_written| unsafe {
         jengafir_draw_item(
             row.as_ptr(),
@@ -56,13 +58,18 @@ fn theirs(rectangle: &Rectangle) -> u32 {
     black_box(source::rect_path(&rectangle.item)).unwrap().numbers.len() as u32
 }
 
+fn rectangles(roundness: f32) -> Vec<Rectangle> {
+    let mut unit = unit_numbers();
+    (0..RECTANGLES).map(|_| rectangle(&mut unit, roundness)).collect()
+}
+
 pub fn run() {
+    let mut codes = [0; MOST_CODES];
+    let mut numbers = [0.0; MOST_NUMBERS];
     for (call, roundness) in [("draw_item, plain", 0.0), ("draw_item, round", 0.5)] {
-        let mut unit = unit_numbers();
-        let rectangles: Vec<Rectangle> = (0..RECTANGLES).map(|_| rectangle(&mut unit, roundness)).collect();
-        let mut codes = [0; MOST_CODES];
-        let mut numbers = [0.0; MOST_NUMBERS];
-        let ours = |r: &Rectangle| draw(r, &mut codes, black_box(&mut numbers));
-        compare(call, ("rectangle", 1), &rectangles, ours, theirs);
+        let ours = |r: &Rectangle| draw(RC, r, &mut codes, black_box(&mut numbers));
+        compare(call, ("rectangle", 1), &rectangles(roundness), ours, theirs);
     }
+    let ours = |r: &Rectangle| draw(EL, r, &mut codes, black_box(&mut numbers));
+    alone("draw_item, ellipse", ("ellipse", 1), &rectangles(0.0), ours);
 }

@@ -1,8 +1,8 @@
-//! Times merges, through the C interface, against the Rust's own function over its stand-ins.
+//! Times merges, through the C interface, against the Rust's own function over its stand-ins; of ellipses, alone.
 
 use crate::interface::jengafir_merge;
-use crate::item::{rectangle, RC};
-use crate::timing::{compare, numbers_written};
+use crate::item::{rectangle, EL, RC};
+use crate::timing::{alone, compare, numbers_written};
 use crate::unit_numbers;
 use source::{BezierPath, BezierVertex, ShapeItem};
 use std::hint::black_box;
@@ -38,9 +38,9 @@ impl Merge {
     }
 }
 
-/// Rectangles with this part of half their smaller side as roundness.
-fn rectangles(unit: &mut impl FnMut() -> f32, roundness: f32) -> Merge {
-    Merge::new(RC, 100, |numbers| {
+/// Rectangles with this part of half their smaller side as roundness, or the ellipses in them.
+fn rectangles(unit: &mut impl FnMut() -> f32, kind: u32, roundness: f32) -> Merge {
+    Merge::new(kind, 100, |numbers| {
         let rectangle = rectangle(unit, roundness);
         numbers.extend(rectangle.numbers);
         rectangle.item
@@ -89,14 +89,17 @@ fn theirs(merge: &Merge) -> u32 {
 pub fn run() {
     let mut unit = unit_numbers();
     let merges: [(&str, Vec<Merge>); 3] = [
-        ("merge, 100 plain", (0..MERGES).map(|_| rectangles(&mut unit, 0.0)).collect()),
-        ("merge, 100 round", (0..MERGES).map(|_| rectangles(&mut unit, 0.5)).collect()),
+        ("merge, 100 plain", (0..MERGES).map(|_| rectangles(&mut unit, RC, 0.0)).collect()),
+        ("merge, 100 round", (0..MERGES).map(|_| rectangles(&mut unit, RC, 0.5)).collect()),
         ("merge, 10 paths", (0..MERGES).map(|_| paths(&mut unit)).collect()),
     ];
+    let mut codes = [0; MOST_CODES];
+    let mut numbers = [0.0; MOST_NUMBERS];
     for (call, merges) in merges {
-        let mut codes = [0; MOST_CODES];
-        let mut numbers = [0.0; MOST_NUMBERS];
         let ours = |m: &Merge| join(m, &mut codes, black_box(&mut numbers));
         compare(call, ("merge", 1), &merges, ours, theirs);
     }
+    let merges: Vec<Merge> = (0..MERGES).map(|_| rectangles(&mut unit, EL, 0.0)).collect();
+    let ours = |m: &Merge| join(m, &mut codes, black_box(&mut numbers));
+    alone("merge, 100 ellipses", ("merge", 1), &merges, ours);
 }

@@ -2,10 +2,10 @@
 //! the Rust has none, are compared with a reading of document 02 (crate `source`).
 
 use crate::interface::{jengafir_draw_item, jengafir_draw_path};
+use crate::length::{compare_length, judged};
 use crate::random::Random;
 use crate::report::{Outcomes, Report};
 use crate::sample::{bits, filled, line, Case, OLD_NUMBER};
-use crate::length::compare_length;
 use crate::shapes::{any_ellipse_item, any_item, any_path, edges, Input, EL, MOST_VERTICES, RC, SH};
 use source::{BezierPath, BezierVertex, Path, ShapeItem};
 
@@ -45,7 +45,7 @@ fn compare_ellipses(random: &mut Random, count: usize, report: &mut Report) {
         let item = any_ellipse_item(random);
         judge(random, report, &mut items, &item);
         if let (0, Ok(path)) = (i % MEASURED, answer(&item)) {
-            compare_length(report, &path, &mut lengths);
+            compare_length(report, &path, judged(&path), &mut lengths);
         }
     }
     report.outcomes.push(("draw_item of ellipses", items));

@@ -30,7 +30,8 @@ fn compare_list(
     lengths: &mut Outcomes,
     commands: &mut Outcomes,
 ) {
-    let judged = compare_length(report, list, lengths);
+    let judged = judged(list);
+    compare_length(report, list, judged, lengths);
     let k = any_index(random, list.codes.len());
     let theirs = match judged.and_then(|()| check(k < list.codes.len(), 12)) {
         Ok(()) => [0, list.codes[..k].iter().map(|&code| size(code)).sum(), size(list.codes[k])],
@@ -41,9 +42,8 @@ fn compare_list(
     report.count(ours == theirs, || format!("command {k} of {}: ours {ours:?}, theirs {theirs:?}", shown(list)));
 }
 
-/// Compares the length, and hands back what the list's checks say.
-pub fn compare_length(report: &mut Report, list: &Path, lengths: &mut Outcomes) -> Result<(), u32> {
-    let judged = judged(list);
+/// Compares the length of a list that is judged.
+pub fn compare_length(report: &mut Report, list: &Path, judged: Result<(), u32>, lengths: &mut Outcomes) {
     let theirs = match judged {
         Ok(()) => [0, source::path_length(list).to_bits()],
         Err(refusal) => [refusal, BEFORE],
@@ -51,7 +51,6 @@ pub fn compare_length(report: &mut Report, list: &Path, lengths: &mut Outcomes) 
     let ours = length(list);
     lengths[theirs[0] as usize] += 1;
     report.count(ours == theirs, || format!("length of {}: ours {ours:x?}, theirs {theirs:x?}", shown(list)));
-    judged
 }
 
 /// The checks of a command list in document 01's order: 2; of the first faulty command 4, 12, 3; then numbers left over.

@@ -1,7 +1,7 @@
--- Closed cases of an ellipse, what its proofs cite, and what is known of its commands.
-pub mod Cases
+-- What the proofs of `ellipse` cite, what is known of its commands, and closed cases.
 pub mod Ways
-pub mod Numbers
+pub mod Each
 pub mod Sound
 pub mod Single
 pub mod Enlarged
+pub mod Cases

@@ -5,7 +5,7 @@ use Rattle.ieee.proofs.Single.{add-single, sub-single}
 use Rattle.command.specs.Commands.{numbersOf}
 use Rattle.rect.proofs.Box.{bounds-single}
 use Rattle.ellipse.specs.Ellipse.{tangentOn, ellipsePath}
-use Rattle.ellipse.proofs.Numbers.{EllipseEach, ellipse-each}
+use Rattle.ellipse.proofs.Each.{EllipseEach, ellipse-each}
 
 pub ellipse-single : (cx cy w h : Float) → Single cx → Single cy → AllSingle (numbersOf (ellipsePath cx cy w h))
 ellipse-single cx cy w h X Y =

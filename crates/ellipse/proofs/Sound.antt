@@ -15,7 +15,7 @@ use Rattle.rect.specs.Bounds.{half, rectBounds}
 use Rattle.rect.proofs.Box.{part, bounds-bounded}
 use Rattle.rect.proofs.Tangent.{half-bounded, tangent-bounded, plus-bounded, less-bounded, number-bounded}
 use Rattle.ellipse.specs.Ellipse.{tangentOn, ellipsePath}
-use Rattle.ellipse.proofs.Numbers.{EllipseEach, ellipse-each}
+use Rattle.ellipse.proofs.Each.{EllipseEach, ellipse-each}
 
 on-bounded : (side : Float) → Bounded (part 2) side → Bounded (part 1) (tangentOn side)
 unfolding tangentOn

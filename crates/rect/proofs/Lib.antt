@@ -2,7 +2,7 @@
 pub mod Box
 pub mod Tangent
 pub mod Enlarged
-pub mod Numbers
+pub mod Each
 pub mod Sound
 pub mod Single
 pub mod Ways

@@ -8,7 +8,7 @@ use Rattle.rect.specs.declared.Bounds.{Bounds}
 use Rattle.rect.specs.Bounds.{rectBounds}
 use Rattle.rect.specs.Rect.{cornerRadius, tangentOf, rectPath}
 use Rattle.rect.proofs.Box.{BoundsSingle, bounds-single}
-use Rattle.rect.proofs.Numbers.{RectEach, rect-each}
+use Rattle.rect.proofs.Each.{RectEach, rect-each}
 
 numbers-single : (box : Bounds) (q : Float) → BoundsSingle box → RectEach Single box q
 numbers-single box q B = record {

@@ -18,7 +18,7 @@ use Rattle.rect.specs.Bounds.{half, rectBounds}
 use Rattle.rect.specs.Rect.{cornerRadius, tangentOf, rectPath}
 use Rattle.rect.proofs.Box.{part, BoundsBounded, bounds-bounded}
 use Rattle.rect.proofs.Tangent.{half-bounded, tangent-bounded, plus-bounded, less-bounded, number-bounded}
-use Rattle.rect.proofs.Numbers.{RectEach, rect-each}
+use Rattle.rect.proofs.Each.{RectEach, rect-each}
 
 radius-bounded : (w h roundness : Float) → Bounded (2 ^ 20) w → Bounded (2 ^ 20) h → Bounded (2 ^ 20) roundness → Bounded (part 1) (cornerRadius w h roundness)
 unfolding cornerRadius
