@@ -1,5 +1,6 @@
 -- The laws of outcomes, of lists of commands, and of the buffers that they are written to.
 pub mod Outcomes
+pub mod Verdicts
 pub mod Buffers
 pub mod Passes
 pub mod Writes

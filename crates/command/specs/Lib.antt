@@ -2,5 +2,6 @@
 pub mod Commands
 pub mod Refusals
 pub mod Outcomes
+pub mod Verdicts
 pub mod Buffers
 pub mod Enlarged

@@ -40,6 +40,12 @@ pub enum Counts {
     Of(usize, usize),
 }
 
+// What checks alone come to: the first refusal, or that all of them pass.
+pub enum Verdict {
+    Refused(Refusal),
+    Passed,
+}
+
 // The number by which C knows a refusal.
 pub fn refusal_number(refusal: Refusal) -> u32
     ensures { λ r. ⌜ r ≡ refusalNumber refusal ⌝ }

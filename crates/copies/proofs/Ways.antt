@@ -27,17 +27,18 @@ use Rattle.count.specs.Count.{countUp, countLimit}
 use Rattle.command.specs.declared.Refusal.{Refusal}
 use Rattle.command.specs.declared.Refusal.the-variants.{TooMany, OutOfRange, Unsupported, NoSuchCopy, NotFinite, BufferTooSmall}
 use Rattle.command.specs.Refusals.{refusalNumber}
-use Rattle.command.specs.Outcomes.{Outcome, refused, accepted, andThen, _gives_, checked, AllPass}
+use Rattle.command.specs.Outcomes.{Outcome, refused, accepted, _gives_, checked, AllPass}
 use Rattle.command.specs.Buffers.{fitted, inBuffer, Filled}
-use Rattle.command.proofs.Outcomes.{checks-relate, checks-passed}
 use Rattle.command.proofs.Buffers.{sets-append, fitted-accepted, fitted-refused, unfilled, filled}
 use Rattle.repeater.specs.declared.Matrix.{Matrix}
 use Rattle.repeater.specs.declared.RepeaterStyle.{RepeaterStyle}
 use Rattle.repeater.specs.Repeater.{mostCopies, mostOffset, copyCount, copyTransform, copyOpacity}
-use Rattle.copies.specs.declared.Verdict.{Verdict}
-use Rattle.copies.specs.declared.Verdict.the-variants.{Fault, Sound}
+use Rattle.command.specs.declared.Verdict.{Verdict}
+use Rattle.command.specs.declared.Verdict.the-variants.{Refused, Passed}
+use Rattle.command.specs.Verdicts.{verdictOf}
+use Rattle.command.proofs.Verdicts as behind
 use Rattle.copies.specs.declared.Written.{Written}
-use Rattle.copies.specs.Outcomes.{verdictOf, writtenNumber, writtenCount}
+use Rattle.copies.specs.Outcomes.{writtenNumber, writtenCount}
 use Rattle.copies.specs.Order.{rising, falling, orderOf, copyOrder}
 use Rattle.copies.specs.Calls.{repeaterNumbers, hasTooMany, repeaterLimit, repeaterChecks}
 use Rattle.copies.specs.Calls.{orderAnswer, copyNumbers, allFinite, copyAnswer, transformAnswer}
@@ -53,21 +54,21 @@ module _ (r : RepeaterStyle) where
   many-copies h = rw h
 
   module _ (x : Bool) (x-is : x ≡ hasTooMany r) where
-    pub verdict-many : x ≡ true → verdictOf (Fault TooMany) ≡ checked (repeaterChecks r) (accepted tt)
+    pub verdict-many : x ≡ true → verdictOf (Refused TooMany) ≡ checked (repeaterChecks r) (accepted tt)
     unfolding repeaterChecks
     verdict-many t = rw (sym x-is ∙ t)
 
     module _ (few : x ≡ false) (y : Bool) (y-is : y ≡ allWithin repeaterLimit (repeaterNumbers r)) where
-      pub verdict-beyond : y ≡ false → verdictOf (Fault OutOfRange) ≡ checked (repeaterChecks r) (accepted tt)
+      pub verdict-beyond : y ≡ false → verdictOf (Refused OutOfRange) ≡ checked (repeaterChecks r) (accepted tt)
       unfolding repeaterChecks
       verdict-beyond t = rw (sym x-is ∙ few, sym y-is ∙ t)
 
       module _ (inside : y ≡ true) where
-        pub verdict-sound : eq (r .rotation) zero32 ≡ true → verdictOf Sound ≡ checked (repeaterChecks r) (accepted tt)
+        pub verdict-sound : eq (r .rotation) zero32 ≡ true → verdictOf Passed ≡ checked (repeaterChecks r) (accepted tt)
         unfolding repeaterChecks
         verdict-sound t = rw (sym x-is ∙ few, sym y-is ∙ inside, t)
 
-        pub verdict-turned : eq (r .rotation) zero32 ≡ false → verdictOf (Fault Unsupported) ≡ checked (repeaterChecks r) (accepted tt)
+        pub verdict-turned : eq (r .rotation) zero32 ≡ false → verdictOf (Refused Unsupported) ≡ checked (repeaterChecks r) (accepted tt)
         unfolding repeaterChecks
         verdict-turned t = rw (sym x-is ∙ few, sym y-is ∙ inside, t)
 
@@ -308,24 +309,18 @@ module _ (r : RepeaterStyle) (pass : AllPass (repeaterChecks r)) where
 
 -- ---- copy_order, copy_transform
 module _ (r : RepeaterStyle) (v : Verdict) (v-is : verdictOf v ≡ checked (repeaterChecks r) (accepted tt)) where
-  -- what stands behind the checks is answered where the verdict is no fault
-  behind : {A : Type 0} (w : Verdict) → v ≡ w → (o : Outcome A) → checked (repeaterChecks r) o ≡ andThen (verdictOf w) (λ _. o)
-  behind {A} w e o =
-      checks-relate (λ (x : Outcome A) (y : Outcome (Unit {0})). x ≡ andThen y (λ _. o)) (λ f. refl) (repeaterChecks r) o (accepted tt) (λ pass. refl)
-      ∙ ap (λ (y : Outcome (Unit {0})). andThen y (λ _. o)) (sym v-is ∙ ap verdictOf e)
-
-  module _ (f : Refusal) (e : v ≡ Fault f) where
+  module _ (f : Refusal) (e : v ≡ Refused f) where
     pub order-fault : (l : List ℕ) → Filled (fitted (inBuffer (length l)) (orderAnswer r)) (refusalNumber f) 0 l l
     unfolding orderAnswer
-    order-fault l = turned-back l f (orderAnswer r) (behind (Fault f) e (accepted (copyOrder r)))
+    order-fault l = turned-back l f (orderAnswer r) (behind.behind-refused (repeaterChecks r) v v-is f e (accepted (copyOrder r)))
 
     pub copy-fault : (copy : ℕ) (l : List Float) → Filled (fitted (inBuffer (length l)) (transformAnswer r copy)) (refusalNumber f) 0 l l
     unfolding transformAnswer
-    copy-fault copy l = turned-back l f (transformAnswer r copy) (behind (Fault f) e (copyAnswer r copy))
+    copy-fault copy l = turned-back l f (transformAnswer r copy) (behind.behind-refused (repeaterChecks r) v v-is f e (copyAnswer r copy))
 
-  module _ (e : v ≡ Sound) where
+  module _ (e : v ≡ Passed) where
     pub all-pass : AllPass (repeaterChecks r)
-    all-pass = checks-passed (repeaterChecks r) (verdictOf Sound) tt (behind Sound e (verdictOf Sound)) .0
+    all-pass = behind.all-pass (repeaterChecks r) v v-is e
 
     pub order-few : (n : ℕ) → n ≡ copyCount r → n ≤ 4096
     order-few n n-is = rw n-is (count-few r all-pass)
@@ -334,12 +329,12 @@ module _ (r : RepeaterStyle) (v : Verdict) (v-is : verdictOf v ≡ checked (repe
       pub order-sound : (n : ℕ) → n ≡ copyCount r → (l l' : List ℕ) → Filled (fitted (inBuffer (length l)) (accepted (orderOf (r .mode) n))) number count l l'
           → Filled (fitted (inBuffer (length l)) (orderAnswer r)) number count l l'
       unfolding orderAnswer copyOrder
-      order-sound n n-is l l' F = rw (behind Sound e (accepted (copyOrder r)), ← n-is) F
+      order-sound n n-is l l' F = rw (behind.behind-passed (repeaterChecks r) v v-is e (accepted (copyOrder r)), ← n-is) F
 
       pub copy-sound : (copy : ℕ) (l l' : List Float) → Filled (fitted (inBuffer (length l)) (copyAnswer r copy)) number count l l'
           → Filled (fitted (inBuffer (length l)) (transformAnswer r copy)) number count l l'
       unfolding transformAnswer
-      copy-sound copy l l' F = rw (behind Sound e (copyAnswer r copy)) F
+      copy-sound copy l l' F = rw (behind.behind-passed (repeaterChecks r) v v-is e (copyAnswer r copy)) F
 
 pub ruleset calls = (order-fault, copy-fault, all-pass, copies-within, order-few, order-sound, copy-sound)
 

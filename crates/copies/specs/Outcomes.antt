@@ -1,15 +1,8 @@
 -- Which outcome each of this crate's enums is. Definitions only.
 use Prim.Native.Nat.{ℕ}
 use Rattle.command.specs.Outcomes.{Outcome, refused, accepted, numberOf, valueOr}
-use Rattle.copies.specs.declared.Verdict.{Verdict}
-use Rattle.copies.specs.declared.Verdict.the-variants.{Fault, Sound}
 use Rattle.copies.specs.declared.Written.{Written}
 use Rattle.copies.specs.declared.Written.the-variants.{Refused, Count}
-
--- what the checks of a repeater come to
-abbrev pub verdictOf : Verdict → Outcome (Unit {0})
-verdictOf (Fault r) = refused r
-verdictOf Sound = accepted tt
 
 -- how many entries a call has written, or why it wrote none; and the number and the count that are told of that
 abbrev pub writtenOf : Written → Outcome ℕ

@@ -1,5 +1,6 @@
 // A repeater answered: the order of its copies, and the numbers of one of them.
 use command::Refusal;
+use command::Verdict;
 use point::Point;
 use repeater::Matrix;
 use repeater::RepeaterStyle;
@@ -12,9 +13,10 @@ ghost use lib.Seq.{sets};
 ghost use Rattle.ieee.specs.Limit.{allWithin};
 ghost use Rattle.command.specs.declared.Refusal.the-variants.{NotFinite};
 ghost use Rattle.command.specs.Outcomes.{accepted, _gives_, checked, AllPass};
+ghost use Rattle.command.specs.Verdicts.{verdictOf};
 ghost use Rattle.command.specs.Buffers.{fitted, inBuffer, Filled};
 ghost use Rattle.copies.specs.Order.{rising, falling, orderOf};
-ghost use Rattle.copies.specs.Outcomes.{verdictOf, writtenNumber, writtenCount};
+ghost use Rattle.copies.specs.Outcomes.{writtenNumber, writtenCount};
 ghost use Rattle.copies.specs.Calls as spec;
 
 // A repeater from the eleven numbers that C lends.
@@ -42,12 +44,6 @@ pub fn repeater_of(numbers: &[f32], mode: u8) -> RepeaterStyle
         start_opacity: numbers[9],
         end_opacity: numbers[10],
     }
-}
-
-// What is wrong with a repeater, if anything is.
-pub enum Verdict {
-    Fault(Refusal),
-    Sound,
 }
 
 // How a call that fills a buffer ends: a refusal, or how many entries were written.
@@ -108,16 +104,16 @@ pub fn check_repeater(repeater: RepeaterStyle) -> Verdict
     ensures { λ r. ⌜ verdictOf r ≡ checked (spec.repeaterChecks repeater) (accepted tt) ⌝ }
 {
     if has_too_many(repeater) {
-        return Verdict::Fault(Refusal::TooMany);
+        return Verdict::Refused(Refusal::TooMany);
     }
     if is_within(repeater) {
         if repeater.rotation == 0.0 {
-            Verdict::Sound
+            Verdict::Passed
         } else {
-            Verdict::Fault(Refusal::Unsupported)
+            Verdict::Refused(Refusal::Unsupported)
         }
     } else {
-        Verdict::Fault(Refusal::OutOfRange)
+        Verdict::Refused(Refusal::OutOfRange)
     }
 }
 
@@ -181,8 +177,8 @@ pub fn copy_order(repeater: RepeaterStyle, order: &mut [u32]) -> Written
         (writtenNumber r) (writtenCount r) (now (order .entry)) (now (order .exit)) ⌝ }
 {
     match check_repeater(repeater) {
-        Verdict::Fault(refusal) => Written::Refused(refusal),
-        Verdict::Sound => {
+        Verdict::Refused(refusal) => Written::Refused(refusal),
+        Verdict::Passed => {
             let n = repeater::copy_count(repeater);
             write_order(repeater.mode, n as usize, order)
         }
@@ -265,7 +261,7 @@ pub fn copy_transform(repeater: RepeaterStyle, copy: usize, matrix: &mut [f32]) 
         (writtenNumber r) (writtenCount r) (now (matrix .entry)) (now (matrix .exit)) ⌝ }
 {
     match check_repeater(repeater) {
-        Verdict::Fault(refusal) => Written::Refused(refusal),
-        Verdict::Sound => write_sound(repeater, copy, matrix),
+        Verdict::Refused(refusal) => Written::Refused(refusal),
+        Verdict::Passed => write_sound(repeater, copy, matrix),
     }
 }

@@ -30,13 +30,13 @@ use Rattle.draw.specs.Items.{hasNoVertices, rectOf, itemShape, sourceChe
 use Rattle.draw.proofs.ByKind.{kinds-hold}
 
 -- ---- the checks of a row, passed
-pub record Passed (row : ItemRow) (items : List Float) : Type 0 where
+pub record SourcePassed (row : ItemRow) (items : List Float) : Type 0 where
   pub some : hasNoVertices row ≡ false
   pub few : row .count ≤ 1024
   pub inside : row .place + entriesOf row ≤ length items
   pub numbers-within : allWithin coordinateLimit (take (entriesOf row) (drop (row .place) items)) ≡ true
 
-pub source-passed : (row : ItemRow) (items : List Float) → AllPass (sourceChecks row items) → Passed row items
+pub source-passed : (row : ItemRow) (items : List Float) → AllPass (sourceChecks row items) → SourcePassed row items
 unfolding sourceChecks
 source-passed row items pass = record {
   some = search not-false;
@@ -51,7 +51,7 @@ entries-dropped row items h = rw length-drop (omega arith)
 -- ---- a source that is drawn
 -- the row's numbers are the first of those from its place on
 pub record DrawnSource (row : ItemRow) (items : List Float) (cs : List PathCommand) : Type 0 where
-  pub passed : Passed row items
+  pub passed : SourcePassed row items
   pub shape : Shape
   pub made : itemShape row (drop (row .place) items) ≡ accepted shape
   pub fits : Fit shape (drop (row .place) items)
@@ -84,7 +84,7 @@ drawn-source row items cs e =
     let p = checks-passed (sourceChecks row items) (shapeDrawn row v) cs e in
     go (source-passed row items (p .0)) (p .1) (itemShape row v) refl (p .1)
   where
-    go : Passed row items → shapeDrawn row (drop (row .place) items) ≡ accepted cs → (o : Outcome Shape) → itemShape row (drop (row .place) items) ≡ o
+    go : SourcePassed row items → shapeDrawn row (drop (row .place) items) ≡ accepted cs → (o : Outcome Shape) → itemShape row (drop (row .place) items) ≡ o
         → mapped (λ (s : Shape). shapeCommands s (drop (row .place) items)) o ≡ accepted cs → DrawnSource row items cs
     go P d (refused r) is e = refused-accepted r cs e
     go P d (accepted s) is e = record {

@@ -20,58 +20,85 @@ use Rattle.command.specs.Refusals.{refusalNumber}
 use Rattle.command.specs.Outcomes.{Outcome, refused, accepted, mapped, _gives_, checked, countsOf, countsNumber, firstCount, secondCount}
 use Rattle.command.specs.Buffers.{inBuffers, fitted, FilledBoth, roomOf}
 use Rattle.command.proofs.Buffers.{both-unfilled}
+use Rattle.command.specs.declared.Verdict.{Verdict}
+use Rattle.command.specs.declared.Verdict.the-variants.{Refused, Passed}
+use Rattle.command.specs.Verdicts.{verdictOf}
+use Rattle.command.proofs.Verdicts.{behind-refused, behind-passed, all-pass}
 use Rattle.rect.specs.Rect.{cornerRadius}
 use Rattle.shape.specs.declared.Shape.{Shape}
 use Rattle.shape.specs.declared.Shape.the-variants.{Path, Rect, Ellipse}
 use Rattle.shape.specs.Shape.{shapeCommands, Fit}
 use Rattle.item.specs.declared.ItemRow.{ItemRow}
 use Rattle.item.specs.Rows.{itemRow, isListed, entriesOf}
+use Rattle.path.specs.Path.{pathCommands}
 use Rattle.item.proofs.Entries.{entries-path, entries-rect, entries-ellipse}
 use Rattle.draw.specs.declared.Checked.{Checked}
 use Rattle.draw.specs.declared.Checked.the-variants.{Fault, Sound}
 use Rattle.draw.specs.Checks.{coordinateLimit, outcomeOf, Ready}
 use Rattle.draw.specs.Paths.{pathChecks, drawPath}
+use Rattle.draw.proofs.Sources.{SourcePassed, source-passed, path-passed}
 use Rattle.draw.specs.Items.{isDrawable, isHeldBack, hasNoVertices, itemShape, sourceChecks, shapeDrawn, drawSource, itemChecks, drawItem}
 
--- ---- check_path
+-- ---- check_path and draw_path
 module _ (closed : ℕ) (v : List Float) (count : ℕ) where
-  pub path-empty : count ≡ 0 → outcomeOf (Fault Empty) v ≡ drawPath closed v count
-  unfolding drawPath pathChecks outcomeOf
+  pub path-empty : count ≡ 0 → verdictOf (Refused Empty) ≡ checked (pathChecks closed v count) (accepted tt)
+  unfolding pathChecks
   path-empty a = rw (eq-eqb count 0 a)
 
   module _ (a : count ≡ 0 → ⊥) where
-    pub path-many : 1024 < count → outcomeOf (Fault TooMany) v ≡ drawPath closed v count
-    unfolding drawPath pathChecks outcomeOf
+    pub path-many : 1024 < count → verdictOf (Refused TooMany) ≡ checked (pathChecks closed v count) (accepted tt)
+    unfolding pathChecks
     path-many b = rw (ne-eqb count 0 a, lt-ltb 1024 count b)
 
     module _ (b : count ≤ 1024) where
-      pub path-unlisted : 1 < closed → outcomeOf (Fault Unlisted) v ≡ drawPath closed v count
-      unfolding drawPath pathChecks outcomeOf
+      pub path-unlisted : 1 < closed → verdictOf (Refused Unlisted) ≡ checked (pathChecks closed v count) (accepted tt)
+      unfolding pathChecks
       path-unlisted c = rw (ne-eqb count 0 a, le-ltb 1024 count b, lt-ltb 1 closed c)
 
       module _ (c : closed ≤ 1) where
-        pub path-outside : length v < 6 * count → outcomeOf (Fault OutOfBounds) v ≡ drawPath closed v count
-        unfolding drawPath pathChecks outcomeOf
+        pub path-outside : length v < 6 * count → verdictOf (Refused OutOfBounds) ≡ checked (pathChecks closed v count) (accepted tt)
+        unfolding pathChecks
         path-outside d = rw (ne-eqb count 0 a, le-ltb 1024 count b, le-ltb 1 closed c, lt-ltb (length v) (6 * count) d)
 
         module _ (d : 6 * count ≤ length v) (t : Bool) (is : t ≡ allWithin coordinateLimit (take (6 * count) v)) where
-          pub path-sound : t ≡ true → outcomeOf (Sound 0 (Path closed count)) v ≡ drawPath closed v count
-          unfolding drawPath pathChecks outcomeOf shapeCommands
-          path-sound e =
-              rw (ne-eqb count 0 a, le-ltb 1024 count b, le-ltb 1 closed c, le-ltb (length v) (6 * count) d, ← is, e)
+          -- the last check, with the others passed
+          last-path : checked ((not t gives OutOfRange) ∷ []) (verdictOf Passed) ≡ checked (pathChecks closed v count) (verdictOf Passed)
+          unfolding pathChecks
+          last-path = rw (ne-eqb count 0 a, le-ltb 1024 count b, le-ltb 1 closed c, le-ltb (length v) (6 * count) d, ← is)
 
-          pub path-ready : Ready (Sound 0 (Path closed count)) v
-          path-ready = (omega arith, record { some = omega arith; few = b; inside = d })
+          pub path-passes : t ≡ true → verdictOf Passed ≡ checked (pathChecks closed v count) (accepted tt)
+          path-passes e = rw e at last-path
 
-          pub path-beyond : t ≡ false → outcomeOf (Fault OutOfRange) v ≡ drawPath closed v count
-          unfolding drawPath pathChecks outcomeOf
-          path-beyond e =
-              rw (ne-eqb count 0 a, le-ltb 1024 count b, le-ltb 1 closed c, le-ltb (length v) (6 * count) d, ← is, e)
+          pub path-beyond : t ≡ false → verdictOf (Refused OutOfRange) ≡ checked (pathChecks closed v count) (accepted tt)
+          path-beyond e = rw e at last-path
+
+  module _ (verdict : Verdict) (verdict-is : verdictOf verdict ≡ checked (pathChecks closed v count) (accepted tt)) where
+    pub path-ready : verdict ≡ Passed → Fit (Path closed count) v
+    path-ready e =
+        let P = path-passed closed v count (all-pass (pathChecks closed v count) verdict verdict-is e) in
+        record { some = P .some; few = P .few; inside = P .inside }
+
+    pub path-refused : (codes : List ℕ) (numbers : List Float) (r : Refusal) → verdict ≡ Refused r
+        → FilledBoth (fitted (inBuffers (length codes) (length numbers)) (drawPath closed v count)) (refusalNumber r) 0 0 codes codes numbers numbers
+    unfolding drawPath fitted
+    path-refused codes numbers r e =
+        rw (behind-refused (pathChecks closed v count) verdict verdict-is r e (accepted (pathCommands closed v count))) (both-unfilled r codes numbers)
+
+    pub path-drawn-whole : (codes codes' : List ℕ) (numbers numbers' : List Float) (r : Counts) → verdict ≡ Passed
+        → FilledBoth (fitted (inBuffers (length codes) (length numbers)) (accepted (shapeCommands (Path closed count) v))) (countsNumber r) (firstCount r) (secondCount r)
+        codes codes' numbers numbers'
+        → FilledBoth (fitted (inBuffers (length codes) (length numbers)) (drawPath closed v count)) (countsNumber r) (firstCount r) (secondCount r)
+        codes codes' numbers numbers'
+    unfolding drawPath shapeCommands
+    path-drawn-whole codes codes' numbers numbers' r e f =
+        rw (behind-passed (pathChecks closed v count) verdict verdict-is e (accepted (pathCommands closed v count))) f
 
 pub taken : (v : List Float) (n : ℕ) → n ≤ length v → n ≡ length (take n v)
 taken v n h = sym (length-take-le n v h)
 
-pub ruleset paths = (taken, path-empty, path-many, path-unlisted, path-outside, path-sound, path-ready, path-beyond)
+pub ruleset paths = (taken, path-empty, path-many, path-unlisted, path-outside, path-passes, path-beyond)
+
+pub ruleset path-drawings = (path-ready, path-refused, path-drawn-whole)
 
 -- ---- is_drawable
 module _ (row : ItemRow) (t : Bool) (is : t ≡ isListed row) where
@@ -174,42 +201,43 @@ module _ (row : ItemRow) (items : List Float) where
   abbrev v : List Float
   v = drop (row .place) items
 
+  -- what the checks come to
+  abbrev verdict : Outcome (Unit {0})
+  verdict = checked (sourceChecks row items) (verdictOf Passed)
+
   module _ (held : Bool) (held-is : held ≡ isHeldBack row) where
-    pub source-held : held ≡ true → outcomeOf (Fault Unsupported) items ≡ drawSource row items
-    unfolding drawSource sourceChecks outcomeOf
+    pub source-held : held ≡ true → verdictOf (Refused Unsupported) ≡ verdict
+    unfolding sourceChecks
     source-held a = rw (← held-is, a)
 
     module _ (a : held ≡ false) (empty : Bool) (empty-is : empty ≡ hasNoVertices row) where
-      pub source-empty : empty ≡ true → outcomeOf (Fault Empty) items ≡ drawSource row items
-      unfolding drawSource sourceChecks outcomeOf
+      pub source-empty : empty ≡ true → verdictOf (Refused Empty) ≡ verdict
+      unfolding sourceChecks
       source-empty b = rw (← held-is, a, ← empty-is, b)
 
       module _ (b : empty ≡ false) where
-        pub some-vertices : hasNoVertices row ≡ false
-        some-vertices = sym empty-is ∙ b
-
-        pub source-many : 1024 < row .count → outcomeOf (Fault TooMany) items ≡ drawSource row items
-        unfolding drawSource sourceChecks outcomeOf
+        pub source-many : 1024 < row .count → verdictOf (Refused TooMany) ≡ verdict
+        unfolding sourceChecks
         source-many c = rw (← held-is, a, ← empty-is, b, lt-ltb 1024 (row .count) c)
 
         module _ (c : row .count ≤ 1024) (n : ℕ) (n-is : n ≡ entriesOf row) where
-          source-outside : length items < row .place + entriesOf row → outcomeOf (Fault OutOfBounds) items ≡ drawSource row items
-          unfolding drawSource sourceChecks outcomeOf
+          source-outside : length items < row .place + entriesOf row → verdictOf (Refused OutOfBounds) ≡ verdict
+          unfolding sourceChecks
           source-outside d =
               rw (← held-is, a, ← empty-is, b, le-ltb 1024 (row .count) c, lt-ltb (length items) (row .place + entriesOf row) d)
 
-          pub source-short : length items < n → outcomeOf (Fault OutOfBounds) items ≡ drawSource row items
+          pub source-short : length items < n → verdictOf (Refused OutOfBounds) ≡ verdict
           source-short d = source-outside (omega arith)
 
           module _ (d : n ≤ length items) where
-            pub source-past : length items - n < row .place → outcomeOf (Fault OutOfBounds) items ≡ drawSource row items
+            pub source-past : length items - n < row .place → verdictOf (Refused OutOfBounds) ≡ verdict
             source-past e = source-outside (omega arith)
 
             module _ (e : row .place ≤ length items - n) where
               pub end-inside : row .place + n ≤ length items
               end-inside = omega arith
 
-              pub entries-inside : row .place + entriesOf row ≤ length items
+              entries-inside : row .place + entriesOf row ≤ length items
               entries-inside = omega arith
 
               module _ (t : Bool) (t-is : t ≡ allWithin coordinateLimit (take (row .place + n - row .place) v)) where
@@ -222,8 +250,8 @@ module _ (row : ItemRow) (items : List Float) where
                 judged = t-is ∙ ap (allWithin coordinateLimit) same
 
                 -- the last check, with the others passed
-                last : checked ((not t gives OutOfRange) ∷ []) (shapeDrawn row v) ≡ drawSource row items
-                unfolding drawSource sourceChecks
+                last : checked ((not t gives OutOfRange) ∷ []) (verdictOf Passed) ≡ verdict
+                unfolding sourceChecks
                 last =
                     rw (
                       ← held-is,
@@ -235,25 +263,61 @@ module _ (row : ItemRow) (items : List Float) where
                       ← judged,
                     )
 
-                pub source-beyond : t ≡ false → outcomeOf (Fault OutOfRange) items ≡ drawSource row items
-                unfolding outcomeOf
+                pub source-beyond : t ≡ false → verdictOf (Refused OutOfRange) ≡ verdict
                 source-beyond f = rw f at last
 
-                pub source-made : t ≡ true → (k : Checked) → outcomeOf k items ≡ shapeDrawn row v → outcomeOf k items ≡ drawSource row items
-                source-made f k is = is ∙ (rw f at last)
+                pub source-passes : t ≡ true → verdictOf Passed ≡ verdict
+                source-passes f = rw f at last
 
 pub ruleset sources = (
   source-held,
   source-empty,
-  some-vertices,
   source-many,
   source-short,
   source-past,
   end-inside,
-  entries-inside,
   source-beyond,
-  source-made,
+  source-passes,
 )
+
+-- ---- a row behind its checks: what shape_of asks, and what check_item and source_need owe
+module _ (row : ItemRow) (items : List Float) (u : Verdict) (u-is : verdictOf u ≡ checked (sourceChecks row items) (accepted tt)) where
+  abbrev rest : List Float
+  rest = drop (row .place) items
+
+  pub source-turned : (r : Refusal) → u ≡ Refused r → outcomeOf (Fault r) items ≡ drawSource row items
+  unfolding drawSource outcomeOf
+  source-turned r e = sym (behind-refused (sourceChecks row items) u u-is r e (shapeDrawn row rest))
+
+  pub need-turned : (r : Refusal) → u ≡ Refused r → refused r ≡ mapped roomOf (drawSource row items)
+  unfolding drawSource
+  need-turned r e = rw (behind-refused (sourceChecks row items) u u-is r e (shapeDrawn row rest))
+
+  module _ (e : u ≡ Passed) where
+    passed : SourcePassed row items
+    passed = source-passed row items (all-pass (sourceChecks row items) u u-is e)
+
+    pub some-vertices : hasNoVertices row ≡ false
+    some-vertices = passed .some
+
+    pub few-vertices : row .count ≤ 1024
+    few-vertices = passed .few
+
+    pub numbers-inside : row .place + entriesOf row ≤ length items
+    numbers-inside = passed .inside
+
+    drawn-is : drawSource row items ≡ shapeDrawn row rest
+    unfolding drawSource
+    drawn-is = behind-passed (sourceChecks row items) u u-is e (shapeDrawn row rest)
+
+    pub source-made : (k : Checked) → outcomeOf k items ≡ shapeDrawn row rest → outcomeOf k items ≡ drawSource row items
+    source-made k is = is ∙ sym drawn-is
+
+    pub need-made : (k : Checked) (r : Counts) → outcomeOf k items ≡ shapeDrawn row rest → countsOf r ≡ mapped roomOf (outcomeOf k items)
+        → countsOf r ≡ mapped roomOf (drawSource row items)
+    need-made k r is f = f ∙ ap (mapped roomOf) (is ∙ sym drawn-is)
+
+pub ruleset behind-checks = (source-turned, need-turned, some-vertices, few-vertices, numbers-inside, source-made, need-made)
 
 -- ---- check_item
 module _ (row : List ℕ) (items : List Float) where
@@ -273,7 +337,7 @@ module _ (row : List ℕ) (items : List Float) where
     unfolding drawItem itemChecks
     row-source s e b = rw (le-ltb (length row) 6 a, row-judged ∙ b) (e ∙ ap (λ (x : ItemRow). drawSource x items) r-is)
 
-pub ruleset items = (row-short, row-unlisted, row-source)
+pub ruleset items = (row-short, row-unlisted, row-source, behind-checks)
 
 -- ---- checked_need and draw_checked
 pub tail : (l : List Float) (a : ℕ) → take (length l - a) (drop a l) ≡ drop a l
@@ -311,10 +375,7 @@ module _ (k : Checked) (v : List Float) where
     unfolding outcomeOf
     sound-drawn codes codes' numbers numbers' r f = rw is (rw (tail v place) at f)
 
--- ---- source_need, draw_path and draw_item
-pub need-as-checked : (k : Checked) (v : List Float) (o : Outcome (List PathCommand)) (r : Counts) → outcomeOf k v ≡ o → countsOf r ≡ mapped roomOf (outcomeOf k v) → countsOf r ≡ mapped roomOf o
-need-as-checked k v o r e f = rw (← e) f
-
+-- ---- draw_item
 pub as-checked : (k : Checked) (v : List Float) (o : Outcome (List PathCommand)) (codes codes' : List ℕ) (numbers numbers' : List Float) (r : Counts)
     → outcomeOf k v ≡ o
     → FilledBoth (fitted (inBuffers (length codes) (length numbers)) (outcomeOf k v)) (countsNumber r) (firstCount r) (secondCount r) codes codes' numbers numbers'

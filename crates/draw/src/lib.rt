@@ -1,46 +1,48 @@
 // The calls that draw a vertex list or one item row: the checks in document 01's order, then the writing.
 use command::Counts;
 use command::Refusal;
+use command::Verdict;
 use item::ItemRow;
 use shape::Shape;
 ghost use mathlib.Core.Path.{_≡_};
 ghost use Prim.Native.Nat.{_+_, _≤_};
 ghost use lib.ListN.{length, drop};
 ghost use mathlib.Core.Bool.{false};
-ghost use Rattle.command.specs.Outcomes.{mapped, countsOf, countsNumber, firstCount, secondCount};
+ghost use Rattle.command.specs.Outcomes.{accepted, mapped, checked, countsOf, countsNumber, firstCount, secondCount};
+ghost use Rattle.command.specs.Verdicts.{verdictOf};
 ghost use Rattle.command.specs.Buffers.{inBuffers, fitted, FilledBoth, roomOf};
 ghost use Rattle.item.specs.Rows.{entriesOf};
 ghost use Rattle.draw.specs.Checks.{outcomeOf, Ready};
-ghost use Rattle.draw.specs.Paths.{drawPath};
-ghost use Rattle.draw.specs.Items.{isDrawable, isHeldBack, hasNoVertices, shapeDrawn, drawSource, drawItem};
+ghost use Rattle.draw.specs.Paths.{pathChecks, drawPath};
+ghost use Rattle.draw.specs.Items.{isDrawable, isHeldBack, hasNoVertices, sourceChecks, shapeDrawn, drawSource, drawItem};
 
-// What the checks find: the first refusal, or a shape and the place where its numbers start.
+// What a row that passes its checks comes to: a refusal yet, or a shape and the place where its numbers start.
 pub enum Checked {
     Fault(Refusal),
     Sound(usize, Shape),
 }
 
 // The checks of a vertex list, all but that of the buffers.
-fn check_path(closed: u32, vertices: &[f32], count: usize) -> Checked
-    ensures { λ r. ⌜ (outcomeOf r (now (vertices .entry)) ≡ drawPath closed (now (vertices .entry)) count) × Ready r (now (vertices .entry)) ⌝ }
+fn check_path(closed: u32, vertices: &[f32], count: usize) -> Verdict
+    ensures { λ r. ⌜ verdictOf r ≡ checked (pathChecks closed (now (vertices .entry)) count) (accepted tt) ⌝ }
 {
     if count == 0 {
-        return Checked::Fault(Refusal::Empty);
+        return Verdict::Refused(Refusal::Empty);
     }
     if count > 1024 {
-        return Checked::Fault(Refusal::TooMany);
+        return Verdict::Refused(Refusal::TooMany);
     }
     if closed > 1 {
-        return Checked::Fault(Refusal::Unlisted);
+        return Verdict::Refused(Refusal::Unlisted);
     }
     let n = 6 * count;
     if vertices.len() < n {
-        return Checked::Fault(Refusal::OutOfBounds);
+        return Verdict::Refused(Refusal::OutOfBounds);
     }
     if float::all_within(&vertices[..n], 1048576.0) {
-        Checked::Sound(0, Shape::Path(closed, count))
+        Verdict::Passed
     } else {
-        Checked::Fault(Refusal::OutOfRange)
+        Verdict::Refused(Refusal::OutOfRange)
     }
 }
 
@@ -95,30 +97,30 @@ pub fn shape_of(row: ItemRow, items: &[f32]) -> Checked
 }
 
 // The checks of a row with listed entries, all but that of the buffers.
-fn check_source(row: ItemRow, items: &[f32]) -> Checked
-    ensures { λ r. ⌜ (outcomeOf r (now (items .entry)) ≡ drawSource row (now (items .entry))) × Ready r (now (items .entry)) ⌝ }
+fn check_source(row: ItemRow, items: &[f32]) -> Verdict
+    ensures { λ r. ⌜ verdictOf r ≡ checked (sourceChecks row (now (items .entry))) (accepted tt) ⌝ }
 {
     if is_held_back(row) {
-        return Checked::Fault(Refusal::Unsupported);
+        return Verdict::Refused(Refusal::Unsupported);
     }
     if has_no_vertices(row) {
-        return Checked::Fault(Refusal::Empty);
+        return Verdict::Refused(Refusal::Empty);
     }
     if row.count > 1024 {
-        return Checked::Fault(Refusal::TooMany);
+        return Verdict::Refused(Refusal::TooMany);
     }
     let place = row.place;
     let n = item::entries_of(row);
     if items.len() < n {
-        return Checked::Fault(Refusal::OutOfBounds);
+        return Verdict::Refused(Refusal::OutOfBounds);
     }
     if items.len() - n < place {
-        return Checked::Fault(Refusal::OutOfBounds);
+        return Verdict::Refused(Refusal::OutOfBounds);
     }
     if float::all_within(&items[place..place + n], 1048576.0) {
-        shape_of(row, items)
+        Verdict::Passed
     } else {
-        Checked::Fault(Refusal::OutOfRange)
+        Verdict::Refused(Refusal::OutOfRange)
     }
 }
 
@@ -131,7 +133,10 @@ fn check_item(row: &[u32], items: &[f32]) -> Checked
     }
     let first = item::item_row(row, 0);
     if is_drawable(first) {
-        check_source(first, items)
+        match check_source(first, items) {
+            Verdict::Refused(refusal) => Checked::Fault(refusal),
+            Verdict::Passed => shape_of(first, items),
+        }
     } else {
         Checked::Fault(Refusal::Unlisted)
     }
@@ -152,7 +157,10 @@ fn checked_need(checked: Checked, list: &[f32]) -> Counts
 pub fn source_need(row: ItemRow, items: &[f32]) -> Counts
     ensures { λ r. ⌜ countsOf r ≡ mapped roomOf (drawSource row (now (items .entry))) ⌝ }
 {
-    checked_need(check_source(row, items), items)
+    match check_source(row, items) {
+        Verdict::Refused(refusal) => Counts::Refused(refusal),
+        Verdict::Passed => checked_need(shape_of(row, items), items),
+    }
 }
 
 // Writes what the checks let pass, if it fits the buffers.
@@ -182,12 +190,10 @@ pub fn draw_path(
         (countsNumber r) (firstCount r) (secondCount r)
         (now (codes .entry)) (now (codes .exit)) (now (numbers .entry)) (now (numbers .exit)) ⌝ }
 {
-    draw_checked(
-        check_path(closed, vertices, count),
-        vertices,
-        codes,
-        numbers,
-    )
+    match check_path(closed, vertices, count) {
+        Verdict::Refused(refusal) => Counts::Refused(refusal),
+        Verdict::Passed => shape::draw_shape(Shape::Path(closed, count), vertices, codes, numbers),
+    }
 }
 
 // Draws one item row into two buffers.

@@ -22,12 +22,16 @@ pub fn ellipse_command(bounds: Bounds, cx: f32, cy: f32, w: f32, h: f32, k: usiz
 {
     let tx = tangent_on(w);
     let ty = tangent_on(h);
+    let l = bounds.left;
+    let t = bounds.top;
+    let r = bounds.right;
+    let b = bounds.bottom;
     match k {
-        0 => PathCommand::Move(cx, bounds.top),
-        1 => PathCommand::Cubic(cx + tx, bounds.top, bounds.right, cy - ty, bounds.right, cy),
-        2 => PathCommand::Cubic(bounds.right, cy + ty, cx + tx, bounds.bottom, cx, bounds.bottom),
-        3 => PathCommand::Cubic(cx - tx, bounds.bottom, bounds.left, cy + ty, bounds.left, cy),
-        4 => PathCommand::Cubic(bounds.left, cy - ty, cx - tx, bounds.top, cx, bounds.top),
+        0 => PathCommand::Move(cx, t),
+        1 => PathCommand::Cubic(cx + tx, t, r, cy - ty, r, cy),
+        2 => PathCommand::Cubic(r, cy + ty, cx + tx, b, cx, b),
+        3 => PathCommand::Cubic(cx - tx, b, l, cy + ty, l, cy),
+        4 => PathCommand::Cubic(l, cy - ty, cx - tx, t, cx, t),
         _ => PathCommand::Close,
     }
 }

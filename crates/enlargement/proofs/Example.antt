@@ -1,4 +1,5 @@
--- A plate that meets the conditions of the claim, so that the claim is not about nothing: a closed triangle that is drawn, measured and cut, two rectangles that are merged, and three copies.
+-- A plate that meets the conditions of the claim, so that the claim is not about nothing: a closed triangle that is drawn, measured and cut,
+-- an ellipse that is drawn, two rectangles and the ellipse that are merged, and three copies.
 -- What some calls answer about it and about the plate four times as large stands below as numbers. Assumes nothing.
 use Prim.Native.Nat.{ℕ, zero, suc, _<_, _≤_}
 use native.Mathlib.Nat.{not-suc-le-zero, le-of-suc-le-suc}
@@ -7,7 +8,7 @@ use mathlib.Core.Bool.{Bool, true, false, _&&_}
 use mathlib.Core.List.{List, [], _∷_, map}
 use lib.Dec.{T}
 use lib.IntN.{pos}
-use lib.Ieee.{Float, nan, fin, binary32, fits, add, sub, mul, div, lt, le, ofInt, ofBits}
+use lib.Ieee.{Float, nan, fin, binary32, fits, add, sub, mul, div, lt, le, neg, sum, round, units, size, span, climb, odd, ofInt, ofBits, ofFields}
 use lib.Ieee.Bits.{is-true}
 use lib.Ieee.Fits.{and-l, and-r}
 use lib.ListN.{length, getD}
@@ -21,11 +22,14 @@ use Rattle.ieee.specs.Root.{hypotOf, isqrt}
 use Rattle.ieee.specs.Whole.{roundAway}
 use Rattle.ieee.proofs.Grid.{on→On}
 use Rattle.command.specs.declared.PathCommand.{PathCommand}
-use Rattle.command.specs.declared.PathCommand.the-variants.{Move, Line, Close}
+use Rattle.command.specs.declared.PathCommand.the-variants.{Move, Line, Cubic, Close}
 use Rattle.command.specs.Commands.{codesOf, numbersOf}
 use Rattle.command.specs.Outcomes.{accepted, mapped, listOf}
 use Rattle.path.specs.Path.{bezierSegment}
+use Rattle.rect.specs.Bounds.{rectBounds}
+use Rattle.ellipse.specs.Ellipse.{tangentOn, ellipsePath}
 use Rattle.draw.specs.Paths.{drawPath}
+use Rattle.draw.specs.Items.{drawItem}
 use Rattle.merge.specs.Decision.{ruling, decision}
 use Rattle.curve.specs.Curve.{distance}
 use Rattle.measure.specs.Length as measure
@@ -66,7 +70,7 @@ triangle =
 abbrev sides : List PathCommand
 sides = Move zero32 zero32 ∷ Line three zero32 ∷ Line three four ∷ Line zero32 zero32 ∷ Close ∷ []
 
--- 3 by 4 at 0 with sharp corners, and the same at (10, 0) with a roundness of 1
+-- 3 by 4 at 0 with sharp corners, and the same at (10, 0) with a roundness of 1, whose centre and size are the ellipse's too
 abbrev rectangles : List Float
 rectangles = zero32 ∷ zero32 ∷ three ∷ four ∷ zero32 ∷ ten ∷ zero32 ∷ three ∷ four ∷ one32 ∷ []
 
@@ -74,10 +78,10 @@ abbrev lent : Lent
 lent = record {
   closed = 1;
   count = 3;
-  row = 2 ∷ 0 ∷ 0 ∷ 0 ∷ 0 ∷ 0 ∷ [];
-  -- the rectangles, and a merge item of mode 1
-  rows = 2 ∷ 0 ∷ 0 ∷ 0 ∷ 0 ∷ 0 ∷ 2 ∷ 0 ∷ 0 ∷ 0 ∷ 5 ∷ 0 ∷ 13 ∷ 0 ∷ 0 ∷ 1 ∷ 0 ∷ 0 ∷ [];
-  rowCount = 3;
+  row = 3 ∷ 0 ∷ 0 ∷ 0 ∷ 5 ∷ 0 ∷ [];
+  -- the rectangles, the ellipse, and a merge item of mode 1
+  rows = 2 ∷ 0 ∷ 0 ∷ 0 ∷ 0 ∷ 0 ∷ 2 ∷ 0 ∷ 0 ∷ 0 ∷ 5 ∷ 0 ∷ 3 ∷ 0 ∷ 0 ∷ 0 ∷ 5 ∷ 0 ∷ 13 ∷ 0 ∷ 0 ∷ 1 ∷ 0 ∷ 0 ∷ [];
+  rowCount = 4;
   codes = codesOf sides;
   command = 2;
   -- 25 to 75 per cent
@@ -161,6 +165,32 @@ larger-drawn : drawPath 1 (larger .vertices) 3 ≡ accepted (Move zero32 zero32 
 unfolding enlarge drawPath bezierSegment sub mul ofBits le
 larger-drawn = refl
 
+-- the ellipse around (10, 0), and around (40, 0): an f32 by its bit pattern, whose first digits are its exponent's
+abbrev f : ℕ → Float
+f n = ofBits binary32 n
+
+ellipse-drawn : drawItem (lent .row) (plate .items)
+    ≡ accepted (
+    Move (f 0x4120_0000) (f 0xc000_0000)
+    ∷ Cubic (f 0x412d_413d) (f 0xc000_0000) (f 0x4138_0000) (f 0xbf8d_6289) (f 0x4138_0000) zero32
+    ∷ Cubic (f 0x4138_0000) (f 0x3f8d_6289) (f 0x412d_413d) (f 0x4000_0000) (f 0x4120_0000) (f 0x4000_0000)
+    ∷ Cubic (f 0x4112_bec3) (f 0x4000_0000) (f 0x4108_0000) (f 0x3f8d_6289) (f 0x4108_0000) zero32
+    ∷ Cubic (f 0x4108_0000) (f 0xbf8d_6289) (f 0x4112_bec3) (f 0xc000_0000) (f 0x4120_0000) (f 0xc000_0000)
+    ∷ Close ∷ [])
+unfolding drawItem le tangentOn ellipsePath rectBounds fma mul sub neg sum round units size span climb odd ofBits ofFields
+ellipse-drawn = refl
+
+larger-ellipse-drawn : drawItem (lent .row) (larger .items)
+    ≡ accepted (
+    Move (f 0x4220_0000) (f 0xc100_0000)
+    ∷ Cubic (f 0x422d_413d) (f 0xc100_0000) (f 0x4238_0000) (f 0xc08d_6289) (f 0x4238_0000) zero32
+    ∷ Cubic (f 0x4238_0000) (f 0x408d_6289) (f 0x422d_413d) (f 0x4100_0000) (f 0x4220_0000) (f 0x4100_0000)
+    ∷ Cubic (f 0x4212_bec3) (f 0x4100_0000) (f 0x4208_0000) (f 0x408d_6289) (f 0x4208_0000) zero32
+    ∷ Cubic (f 0x4208_0000) (f 0xc08d_6289) (f 0x4212_bec3) (f 0xc100_0000) (f 0x4220_0000) (f 0xc100_0000)
+    ∷ Close ∷ [])
+unfolding enlarge drawItem le tangentOn ellipsePath rectBounds fma mul sub neg sum round units size span climb odd ofBits ofFields
+larger-ellipse-drawn = refl
+
 -- 12, and 48
 length-12 : measureList (lent .codes) (plate .numbers) ≡ accepted twelve
 unfolding sub mul ofBits le hypotOf isqrt allWithin
@@ -189,7 +219,7 @@ unfolding enlarge sub mul div le ofInt ofBits min max clamp fma remEuclid hypotO
     offsetOf placedAt snapped near nearBoth isWhole rangesBetween lower upper normalizedTrimSegments isFiniteTrim isTrimMode cutMeasured trimLengths lengthsAnswer partOf
 cuts-48 = refl
 
-rows-joined : decision (lent .rows) (lent .rowCount) ≡ accepted (0 ∷ 1 ∷ [])
+rows-joined : decision (lent .rows) (lent .rowCount) ≡ accepted (0 ∷ 1 ∷ 2 ∷ [])
 unfolding decision ruling
 rows-joined = refl
 

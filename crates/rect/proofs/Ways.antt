@@ -16,15 +16,17 @@ use Rattle.command.specs.declared.PathCommand.the-variants.{Close}
 use Rattle.command.proofs.Passes.{closes}
 use Rattle.command.specs.Commands.{numbersOf}
 use Rattle.rect.specs.declared.Bounds.{Bounds}
-use Rattle.rect.specs.Bounds.{half, rectBounds}
+use Rattle.rect.specs.Bounds.{half, nearSide, rectBounds}
 use Rattle.rect.specs.Rect.{epsilon, cornerRadius, plainRect, roundRect, rectPath}
 
 -- ---- rect_bounds and corner_radius
-pub bounds-are : (cx cy w h width height left top : Float)
-    → width ≡ abs w → height ≡ abs h → left ≡ fma binary32 width (neg half) cx → top ≡ fma binary32 height (neg half) cy
+pub side-is : (centre size positive side : Float) → positive ≡ abs size → side ≡ fma binary32 positive (neg half) centre → side ≡ nearSide centre size
+side-is centre size positive side a e = rw (← a) e
+
+pub bounds-are : (cx cy w h width height left top : Float) → left ≡ nearSide cx w → top ≡ nearSide cy h → width ≡ abs w → height ≡ abs h
     → _≡_ {A = Bounds} (record { left = left; top = top; right = left ⊕ width; bottom = top ⊕ height }) (rectBounds cx cy w h)
 unfolding rectBounds
-bounds-are cx cy w h width height left top a b l t = rw (l, t, a, b)
+bounds-are cx cy w h width height left top l t a b = rw (l, t, a, b)
 
 pub radius-is : (w h roundness width height smaller radius : Float)
     → width ≡ abs w → height ≡ abs h → smaller ≡ min width height → radius ≡ clamp zero32 (smaller ⊗ half) roundness → radius ≡ cornerRadius w h roundness
@@ -81,4 +83,4 @@ module _ (box : Bounds) (q : Float) (t : Bool) (is : t ≡ le q epsilon) where
     unfolding roundRect
     round-numbers = rw (rect-round h)
 
-pub ruleset ways = (bounds-are, radius-is, at-known, plain-past, round-past, plain-count, plain-numbers, round-count, round-numbers)
+pub ruleset ways = (side-is, bounds-are, radius-is, at-known, plain-past, round-past, plain-count, plain-numbers, round-count, round-numbers)

@@ -9,9 +9,13 @@ use Rattle.rect.specs.declared.Bounds.{Bounds}
 abbrev pub half : Float
 half = ofBits binary32 0x3f000000
 
+-- left or top: fused, -0.5 times the size made positive, plus the centre
+abbrev pub nearSide : Float → Float → Float
+nearSide centre size = fma binary32 (abs size) (neg half) centre
+
 -- Width and height made positive; left and top by fused -0.5 times size plus centre; right is left + width, bottom is top + height.
 unfoldable pub rectBounds : Float → Float → Float → Float → Bounds
 rectBounds cx cy w h =
-    let left = fma binary32 (abs w) (neg half) cx in
-    let top = fma binary32 (abs h) (neg half) cy in
+    let left = nearSide cx w in
+    let top = nearSide cy h in
     record { left = left; top = top; right = left ⊕ abs w; bottom = top ⊕ abs h }

@@ -7,7 +7,7 @@ ghost use lib.ListN.{length, getD};
 ghost use Rattle.command.specs.declared.PathCommand.the-variants.{Close};
 ghost use Rattle.command.specs.Commands.{numbersOf};
 ghost use Rattle.rect.specs.declared.Bounds.{Bounds};
-ghost use Rattle.rect.specs.Bounds.{rectBounds};
+ghost use Rattle.rect.specs.Bounds.{nearSide, rectBounds};
 ghost use Rattle.rect.specs.Rect.{epsilon, cornerRadius, plainRect, roundRect, rectPath};
 
 // The sides of a box.
@@ -24,19 +24,25 @@ const KAPPA: f32 = 0.5522848;
 // f32::EPSILON, 2^-23.
 const EPSILON: f32 = 0.00000011920929;
 
+// The side that stands half a size before the centre. It is called, not inlined, so that what works a box out is small
+// and is inlined wherever there is one: else its sides would go through memory.
+fn near_side(centre: f32, size: f32) -> f32
+    ensures { λ r. ⌜ r ≡ nearSide centre size ⌝ }
+{
+    fused::mul_add(float::abs(size), -0.5, centre)
+}
+
 // The sides of the box with this centre and size.
 pub fn rect_bounds(cx: f32, cy: f32, w: f32, h: f32) -> Bounds
     ensures { λ r. ⌜ r ≡ rectBounds cx cy w h ⌝ }
 {
-    let width = float::abs(w);
-    let height = float::abs(h);
-    let left = fused::mul_add(width, -0.5, cx);
-    let top = fused::mul_add(height, -0.5, cy);
+    let left = near_side(cx, w);
+    let top = near_side(cy, h);
     Bounds {
         left,
         top,
-        right: left + width,
-        bottom: top + height,
+        right: left + float::abs(w),
+        bottom: top + float::abs(h),
     }
 }
 

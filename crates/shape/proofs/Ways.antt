@@ -1,6 +1,6 @@
 -- What each way out of a function of this crate owes, as the code meets it. Assumes nothing.
 use mathlib.Core.Path.{_≡_, sym, _∙_}
-use mathlib.Core.Bool.{Bool, true, false}
+use mathlib.Core.Bool.{Bool, true, false, cond}
 use mathlib.Core.List.{List}
 use Prim.Native.Nat.{ℕ, _+_, _*_, _≤_, _<_}
 use native.Mathlib.Nat.{zero-add, lt-of-le-of-lt, mul-le-mul-right}
@@ -80,6 +80,14 @@ module _ (radius : Float) (v : List Float) where
   unfolding shapeCommands
   rect-numbers m f = f _
 
+  pub rect-most : length (numbersOf (shapeCommands (Rect radius) v)) ≤ 34
+  unfolding shapeCommands rectPath
+  rect-most = go (le radius epsilon) (boundsOf v)
+    where
+      go : (t : Bool) (b : Bounds) → length (numbersOf (cond t (plainRect b) (roundRect b radius))) ≤ 34
+      go true b = unfold plainRect in omega arith
+      go false b = unfold roundRect in omega arith
+
   module _ (b : Bounds) (t : Bool) (here : b ≡ boundsOf v) (is : t ≡ le radius epsilon) where
     pub plain-is : t ≡ true → shapeCommands (Rect radius) v ≡ plainRect b
     unfolding shapeCommands
@@ -113,6 +121,9 @@ module _ (v : List Float) where
   pub ellipse-few : 26 ≡ length (numbersOf (shapeCommands Ellipse v))
   unfolding shapeCommands
   ellipse-few = sym (ellipse-numbers (getD v 0 nan) (getD v 1 nan) (getD v 2 nan) (getD v 3 nan))
+
+  pub ellipse-most : length (numbersOf (shapeCommands Ellipse v)) ≤ 34
+  ellipse-most = omega (arith, ellipse-few)
 
   pub ellipse-is : (b : Bounds) (cx cy w h : Float) → b ≡ boundsOf v → cx ≡ getD v 0 nan → cy ≡ getD v 1 nan → w ≡ getD v 2 nan → h ≡ getD v 3 nan
       → shapeCommands Ellipse v ≡ ellipseIn b cx cy w h
@@ -150,9 +161,6 @@ module _ (s t : Shape) (is : s ≡ t) (v : List Float) where
         → numbers' ≡ sets numbers i (numbersOf (shapeCommands s v))
     written numbers numbers' e = rw is e
 
-pub exact-enough : (a n : ℕ) → n ≡ a → a ≤ n
-exact-enough a n e = omega arith
-
 -- all that the loops over a path, over a rectangle and over an ellipse ask, and all that the matches on the kind ask
 pub ruleset path-loops = (path-count, path-command, path-size, counts, writes, few)
 
@@ -162,9 +170,9 @@ pub ruleset ellipse-loops = (ellipse-is, ellipse-six, command-is, writes)
 
 pub ruleset path-arms = (path-fit, path-few, path-count, six-fits, two-more-fit, path-enough)
 
-pub ruleset rect-arms = (rect-fit, rect-count, rect-numbers, exact-enough)
+pub ruleset rect-arms = (rect-fit, rect-count, rect-numbers, rect-most)
 
-pub ruleset ellipse-arms = (ellipse-fit, ellipse-six, ellipse-few)
+pub ruleset ellipse-arms = (ellipse-fit, ellipse-six, ellipse-few, ellipse-most)
 
 pub ruleset arms = (path-arms, rect-arms, ellipse-arms, count-is, numbers-are, enough, codes-room, numbers-room, place-is, codes-are, written)
 

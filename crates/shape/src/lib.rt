@@ -193,15 +193,15 @@ pub fn write_at(
     }
 }
 
-// At least as many numbers as a shape has, without a look at its list.
+// At least as many numbers as a shape has, without a look at its list. In a box a round rectangle has the most.
 fn enough_for(shape: Shape, list: &[f32]) -> usize
     requires { ⌜ Fit shape (now list) ⌝ }
     ensures { λ r. ⌜ length (numbersOf (shapeCommands shape (now (list .entry)))) ≤ r ⌝ }
 {
     match shape {
         Shape::Path(_, count) => 6 * count + 2,
-        Shape::Rect(radius) => rect::rect_numbers(radius),
-        Shape::Ellipse => 26,
+        Shape::Rect(_) => 34,
+        Shape::Ellipse => 34,
     }
 }
 

@@ -16,11 +16,23 @@ is-drawable-requires c κs = search needs
 check-source-requires : tie.Need-check-source-requires
 check-source-requires c κs = search needs
 
+enum-known-refusal : tie.Need-enum-known-refusal
+enum-known-refusal c = search needs
+
+enum-told : tie.Need-enum-told
+enum-told c = search needs
+
+shape-of-requires : tie.Need-shape-of-requires
+shape-of-requires c κs = search (needs, items)
+
 returns-2 : tie.Need-returns-2
 returns-2 c = search (needs, items)
 
 returns-3 : tie.Need-returns-3
 returns-3 c = search (needs, items)
+
+returns-4 : tie.Need-returns-4
+returns-4 c = search (needs, items)
 
 pub check-item-spec : {M : Type 1} → statement M
 check-item-spec =
@@ -30,5 +42,9 @@ check-item-spec =
     item-row-requires
     is-drawable-requires
     check-source-requires
+    enum-known-refusal
+    enum-told
+    shape-of-requires
     returns-2
-    returns-3)
+    returns-3
+    returns-4)

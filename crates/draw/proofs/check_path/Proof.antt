@@ -1,5 +1,5 @@
 -- `draw::check_path` meets its contract. Assumes nothing.
-use Rattle.draw.proofs.Ways.{paths, path-sound, path-ready}
+use Rattle.draw.proofs.Ways.{paths}
 use borrow.Author.Needs.{needs}
 use Rattle.draw.proofs.check_path.Statement.{statement}
 use Rattle.draw.proofs.check_path.Tie as tie
@@ -26,7 +26,7 @@ all-within-requires : tie.Need-all-within-requires
 all-within-requires c κs = search needs
 
 returns-5 : tie.Need-returns-5
-returns-5 c = (search (needs, path-sound), (search needs, search (needs, path-ready)))
+returns-5 c = search (needs, paths)
 
 returns-6 : tie.Need-returns-6
 returns-6 c = search (needs, paths)

@@ -49,9 +49,6 @@ part-all-within-end c = search needs
 all-within-requires : tie.Need-all-within-requires
 all-within-requires c κs = search needs
 
-shape-of-requires : tie.Need-shape-of-requires
-shape-of-requires c κs = (search (needs, sources), search needs, search (needs, sources))
-
 returns-6 : tie.Need-returns-6
 returns-6 c = search (needs, sources)
 
@@ -77,6 +74,5 @@ check-source-spec =
     part-all-within-start
     part-all-within-end
     all-within-requires
-    shape-of-requires
     returns-6
     returns-7)

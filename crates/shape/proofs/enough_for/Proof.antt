@@ -13,14 +13,11 @@ mul-result c = search (needs, arms)
 add-result : tie.Need-add-result
 add-result c = search (needs, arms)
 
-enum-known-shape-2 : tie.Need-enum-known-shape-2
-enum-known-shape-2 c = search needs
-
-rect-numbers-requires : tie.Need-rect-numbers-requires
-rect-numbers-requires c κs = search needs
-
 enum-told : tie.Need-enum-told
 enum-told c = search needs
+
+enum-told-2 : tie.Need-enum-told-2
+enum-told-2 c = search needs
 
 returns : tie.Need-returns
 returns c = search (needs, arms)
@@ -38,9 +35,8 @@ enough-for-spec =
     enum-known-shape
     mul-result
     add-result
-    enum-known-shape-2
-    rect-numbers-requires
     enum-told
+    enum-told-2
     returns
     returns-2
     returns-3)
