@@ -65,7 +65,8 @@ static const uint32_t frame_rows[MOUTHS][FRAME_ROWS][6] = {FRAME(JENGAFIR_RC), F
 static const uint32_t ring_row[6] = {JENGAFIR_SH, 0, 0, 1, RING_PLACE, 4};
 static const uint32_t coin_row[6] = {JENGAFIR_EL, 0, 0, 0, COIN_PLACE, 0};
 
-/* For how many vertices there has to be room: no rectangle needs more than eight, and an ellipse needs that of four. */
+/* For how many vertices there has to be room: no source of a frame needs more than eight; the ring has four, and the coin, an
+   ellipse, needs as much as four. */
 #define FRAME_ROOM 8
 #define ROW_ROOM 4
 

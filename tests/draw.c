@@ -282,8 +282,8 @@ static void test_ellipses(void)
         -KAPPA, 2, -1, 2 * KAPPA, -1, 0,
         -1, -2 * KAPPA, -KAPPA, -2, 0, -2,
     };
-    /* The same, the other way round in size, between numbers that are not read. */
-    static const float turned_about[] = {NAN, 0, 0, -2, -4, INFINITY};
+    /* The same by sides below 0, between numbers that are not read. */
+    static const float below_zero[] = {NAN, 0, 0, -2, -4, INFINITY};
     /* A side of 0 is drawn, flat: 5.4477152 and 6.5522848 are 6 less and plus 0.5522848. */
     static const float flat[] = {5, 6, 0, -2};
     static const float flat_numbers[] = {
@@ -303,7 +303,7 @@ static void test_ellipses(void)
         -0.0f, -0.0f, -0.0f, -0.0f, -0.0f, -0.0f,
     };
     /* 13 units of 2^-149 have the half 6 and the tangent 3, and -6 and 7 on either side of the centre. */
-    static const float tiny[] = {0, 0, 0x1ap-150f, 0};
+    static const float tiny[] = {0, 0, 0xdp-149f, 0};
     static const float tiny_numbers[] = {
         0, 0,
         0x3p-149f, 0, 0x7p-149f, 0, 0x7p-149f, 0,
@@ -313,7 +313,7 @@ static void test_ellipses(void)
     };
 
     item_drawn("ellipse 2 by 4", row, two_by_four, 4, ellipse_codes, 6, two_by_four_numbers, 26);
-    item_drawn("hidden ellipse -2 by -4", hidden, turned_about, 6, ellipse_codes, 6, two_by_four_numbers, 26);
+    item_drawn("hidden ellipse -2 by -4", hidden, below_zero, 6, ellipse_codes, 6, two_by_four_numbers, 26);
     item_drawn("flat ellipse", row, flat, 4, ellipse_codes, 6, flat_numbers, 26);
     item_drawn("ellipse without size", row, point, 4, ellipse_codes, 6, point_numbers, 26);
     item_drawn("ellipse of 13 units", row, tiny, 4, ellipse_codes, 6, tiny_numbers, 26);

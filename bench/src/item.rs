@@ -1,5 +1,5 @@
 //! Times drawing rectangles, through the C interface, against the Rust's own function over its stand-ins, and drawing
-//! ellipses, for which the Rust has no function.
+//! ellipses, whose walk the Rust has in no file.
 
 use crate::interface::jengafir_draw_item;
 use crate::timing::{alone, compare, numbers_written};

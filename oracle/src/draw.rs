@@ -1,8 +1,7 @@
-//! Compares the drawing calls: the Rust's own functions, under document 01's refusals, against ours. Ellipses, for which
-//! the Rust has none, are compared with a reading of document 02 (crate `source`).
+//! Compares the drawing calls: the Rust's own functions, under document 01's refusals, against ours. Of ellipses the box is
+//! the Rust's, and the walk a reading of document 02 (`ellipse_path` in source.rs).
 
 use crate::interface::{jengafir_draw_item, jengafir_draw_path};
-use crate::length::{compare_length, judged};
 use crate::random::Random;
 use crate::report::{Outcomes, Report};
 use crate::sample::{bits, filled, line, Case, OLD_NUMBER};
@@ -26,12 +25,8 @@ pub fn compare(random: &mut Random, count: usize, report: &mut Report) {
     compare_ellipses(random, count, report);
 }
 
-/// One ellipse in so many is measured too.
-const MEASURED: usize = 8;
-
 fn compare_ellipses(random: &mut Random, count: usize, report: &mut Report) {
     let mut items: Outcomes = [0; 13];
-    let mut lengths: Outcomes = [0; 13];
     let edges = edges();
     for &x in &edges {
         for &y in &edges {
@@ -41,15 +36,11 @@ fn compare_ellipses(random: &mut Random, count: usize, report: &mut Report) {
             }
         }
     }
-    for i in 0..count {
+    for _ in 0..count {
         let item = any_ellipse_item(random);
         judge(random, report, &mut items, &item);
-        if let (0, Ok(path)) = (i % MEASURED, answer(&item)) {
-            compare_length(report, &path, judged(&path), &mut lengths);
-        }
     }
     report.outcomes.push(("draw_item of ellipses", items));
-    report.outcomes.push(("length of ellipses", lengths));
 }
 
 /// Paths of two vertices, and rectangles, whose numbers are edges.
@@ -322,7 +313,7 @@ pub fn sample(random: &mut Random) -> Vec<Case> {
     paths.into_iter().chain(items).collect()
 }
 
-/// Whether the Rust has a function for it: it has none for ellipses.
+/// Whether the drawing is the Rust's whole: an ellipse's walk is not.
 pub fn is_the_rusts(input: &Input) -> bool {
     !matches!(input, Input::Item { row, .. } if row.first() == Some(&EL))
 }

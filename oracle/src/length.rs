@@ -3,7 +3,7 @@
 
 use crate::draw::{check, shown_list};
 use crate::interface::{jengafir_command, jengafir_length};
-use crate::lists::{any_list, longest, size, LIMIT, MOST_COMMANDS};
+use crate::lists::{any_list, any_list_or_ellipse, longest, size, LIMIT, MOST_COMMANDS};
 use crate::random::Random;
 use crate::report::{Outcomes, Report};
 use crate::sample::{bits, line, Case};
@@ -16,7 +16,7 @@ pub fn compare(random: &mut Random, count: usize, report: &mut Report) {
         compare_list(random, report, &list, &mut lengths, &mut commands);
     }
     for _ in 0..count {
-        let list = any_list(random);
+        let list = any_list_or_ellipse(random);
         compare_list(random, report, &list, &mut lengths, &mut commands);
     }
     report.outcomes.push(("length", lengths));
@@ -31,7 +31,14 @@ fn compare_list(
     commands: &mut Outcomes,
 ) {
     let judged = judged(list);
-    compare_length(report, list, judged, lengths);
+    let theirs = match judged {
+        Ok(()) => [0, source::path_length(list).to_bits()],
+        Err(refusal) => [refusal, BEFORE],
+    };
+    let ours = length(list);
+    lengths[theirs[0] as usize] += 1;
+    report.count(ours == theirs, || format!("length of {}: ours {ours:x?}, theirs {theirs:x?}", shown(list)));
+
     let k = any_index(random, list.codes.len());
     let theirs = match judged.and_then(|()| check(k < list.codes.len(), 12)) {
         Ok(()) => [0, list.codes[..k].iter().map(|&code| size(code)).sum(), size(list.codes[k])],
@@ -40,17 +47,6 @@ fn compare_list(
     let ours = command(list, k);
     commands[theirs[0]] += 1;
     report.count(ours == theirs, || format!("command {k} of {}: ours {ours:?}, theirs {theirs:?}", shown(list)));
-}
-
-/// Compares the length of a list that is judged.
-pub fn compare_length(report: &mut Report, list: &Path, judged: Result<(), u32>, lengths: &mut Outcomes) {
-    let theirs = match judged {
-        Ok(()) => [0, source::path_length(list).to_bits()],
-        Err(refusal) => [refusal, BEFORE],
-    };
-    let ours = length(list);
-    lengths[theirs[0] as usize] += 1;
-    report.count(ours == theirs, || format!("length of {}: ours {ours:x?}, theirs {theirs:x?}", shown(list)));
 }
 
 /// The checks of a command list in document 01's order: 2; of the first faulty command 4, 12, 3; then numbers left over.

@@ -2,7 +2,7 @@
 
 use crate::draw::{answer, is_the_rusts};
 use crate::random::{Random, EDGES};
-use crate::shapes::{any_item, any_path, one_of};
+use crate::shapes::{any_ellipse_item, any_item, any_path, one_of, Input};
 use source::Path;
 
 pub const MOST_COMMANDS: usize = 262_144;
@@ -67,11 +67,29 @@ pub fn any_list(random: &mut Random) -> Path {
     list
 }
 
+/// The same, or now and then a list that an ellipse is drawn as.
+pub fn any_list_or_ellipse(random: &mut Random) -> Path {
+    if random.bits(3) != 0 {
+        return any_list(random);
+    }
+    let mut list = first_drawn(random, any_ellipse_item, |_| true);
+    if random.bits(3) == 0 {
+        damage(random, &mut list);
+    }
+    list
+}
+
 fn drawn(random: &mut Random) -> Path {
+    let any = |random: &mut Random| if random.bits(1) == 0 { any_path(random) } else { any_item(random) };
+    first_drawn(random, any, is_the_rusts)
+}
+
+/// What the first input is drawn as that is drawn and wanted.
+fn first_drawn(random: &mut Random, any: impl Fn(&mut Random) -> Input, wanted: fn(&Input) -> bool) -> Path {
     loop {
-        let input = if random.bits(1) == 0 { any_path(random) } else { any_item(random) };
+        let input = any(random);
         match answer(&input) {
-            Ok(path) if is_the_rusts(&input) => return path,
+            Ok(path) if wanted(&input) => return path,
             _ => {}
         }
     }

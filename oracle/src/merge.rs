@@ -1,5 +1,5 @@
 //! Compares merges: the Rust's own functions, under document 01's refusals, against ours. An ellipse among the sources is
-//! drawn by a reading of document 02, since the Rust has no function for it; that it is joined, and where, is the Rust's.
+//! drawn in the Rust's box by a reading of document 02; that it is joined, and where, is the Rust's.
 
 use crate::draw::Outcome;
 use crate::draw::{check, drawn_case, ellipse, entries, lengths, rectangle, source_numbers, vertex_list};
@@ -325,7 +325,7 @@ pub fn sample(random: &mut Random) -> Vec<Case> {
         let list = short_list(random);
         let Settled { joined, answer } = settle(&list);
         let left = match answer {
-            // The Rust has no word on ellipses.
+            // The walk of an ellipse is not the Rust's.
             Ok(_) if joined.iter().any(|&row| list.rows[6 * row] == EL) => continue,
             Ok(_) => &mut left[0],
             Err(7) => &mut left[1],

@@ -1,5 +1,6 @@
 //! The Rust's own functions for drawing, merging, measuring, trimming and repeating, cut by name out of its text, over stand-ins as document 01 has them.
-//! Ellipses alone are not the Rust's, whose text has none: they are a reading of document 02.
+//! Of an ellipse the Rust's text has the box, and hands it to a function whose body is in no file: its walk is a reading of
+//! document 02.
 
 mod root;
 
@@ -105,6 +106,13 @@ impl PathBuilder {
         builder.line_to(rect.left, rect.bottom);
         builder.close();
         builder.0
+    }
+}
+
+impl PathBuilder {
+    /// Hands the box over in place of a path, which `ellipse_path` makes of it.
+    fn from_oval(rect: Rect) -> Option<Path> {
+        Some(Path { codes: Vec::new(), numbers: vec![rect.left, rect.top, rect.right, rect.bottom] })
     }
 }
 
@@ -339,14 +347,13 @@ mod drawing_paths {
         build_rect_path(item, 0.0, None)
     }
 
-    /// An ellipse by document 02's text, in the box of the Rust's own rectangle. Each end is left along one axis: the control
-    /// point after it lies that far on, and the one before it that far back.
+    /// An ellipse by document 02's text, in the Rust's own box. Each end is left along one axis: the control point after it
+    /// lies that far on, and the one before it that far back.
     pub fn ellipse_path(item: &ShapeItem) -> Option<Path> {
         let [x, y] = item.position?;
         let [width, height] = item.size?;
-        let rectangle = ShapeItem { position: item.position, size: item.size, roundness: Some(0.0), ..ShapeItem::default() };
-        let corners = build_rect_path(&rectangle, 0.0, None)?.numbers;
-        let [left, top, right, bottom] = [corners[0], corners[1], corners[2], corners[5]];
+        let sides = build_ellipse_path(item, 0.0, None)?.numbers;
+        let &[left, top, right, bottom] = &sides[..] else { panic!("a box has four sides") };
         let [across, down] = [width, height].map(|side| 0.5 * side.abs() * 0.5522848);
         let ends = [[x, top], [right, y], [x, bottom], [left, y]];
         let leaving = [(0, across), (1, down), (0, -across), (1, -down)];
@@ -426,7 +433,7 @@ pub fn rect_path(item: &ShapeItem) -> Option<Path> {
     drawing_paths::rect_path(item)
 }
 
-/// The path of an ellipse, by document 02's text: the Rust has no function for it.
+/// The path of an ellipse: the Rust's box, and document 02's walk.
 pub fn ellipse_path(item: &ShapeItem) -> Option<Path> {
     drawing_paths::ellipse_path(item)
 }

@@ -3,7 +3,7 @@
 use crate::draw::check;
 use crate::interface::{jengafir_trim_lengths, jengafir_trim_ranges};
 use crate::length::{judged, list_line, short_list, shown};
-use crate::lists::any_list;
+use crate::lists::any_list_or_ellipse;
 use crate::random::Random;
 use crate::report::{Outcomes, Report};
 use crate::sample::{bits, filled, line, Case, OLD_NUMBER};
@@ -23,7 +23,7 @@ pub fn compare(random: &mut Random, count: usize, report: &mut Report) {
     }
     for _ in 0..count.div_ceil(RANGES) {
         let trim = any_trim(random);
-        compare_lengths(report, &mut lengths, &trim, &any_list(random));
+        compare_lengths(report, &mut lengths, &trim, &any_list_or_ellipse(random));
     }
     report.outcomes.push(("trim_ranges", ranges));
     report.outcomes.push(("trim_lengths", lengths));

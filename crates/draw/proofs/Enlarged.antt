@@ -57,7 +57,7 @@ module _ {k : ℕ} (K : k ≤ 6) (n : ℕ) (v v' : List Float) (same : length v'
       rw (t .is) (grid-bounded K' (scale-on k 10 13 (getD v i nan) (t .grid)))))
 
 -- ---- a vertex list
--- the grid and the bound are those of a rectangle's commands, so that both kinds have one
+-- the grid and the bound are those of a rectangle's commands, so that all kinds have one
 list-twins : (k : ℕ) → k ≤ 6 → (closed count : ℕ) (v v' : List Float) → ((i : ℕ) → i < 6 * count → Twin k 10 13 (getD v i nan) (getD v' i nan))
     → Twins k 35 16 (pathCommands closed v count) (pathCommands closed v' count)
 list-twins k K closed count v v' twins =

@@ -1,4 +1,5 @@
--- The path of an ellipse: request U1 of document 02, whose words are quoted. The Rust has no body for it. Definitions only.
+-- The path of an ellipse: request U1 of document 02, whose words are quoted. `build_ellipse_path` of drawing_paths.rs works the same box out and hands it to
+-- `from_oval`, whose body is in no file. Definitions only.
 use mathlib.Core.List.{List, [], _∷_}
 use lib.Ieee.{Float}
 use Rattle.ieee.specs.Operators.{_⊕_, _⊖_, _⊗_}

@@ -6,14 +6,11 @@ ghost use lib.ListN.{getD};
 ghost use Rattle.command.specs.declared.PathCommand.the-variants.{Close};
 ghost use Rattle.ellipse.specs.Ellipse.{tangentOn, ellipseIn};
 
-// The f32 nearest to document 02's 0.5522848.
-const KAPPA: f32 = 0.5522848;
-
 // How far the control points stand from the centre's coordinate, on the axis with this side.
 fn tangent_on(side: f32) -> f32
     ensures { λ r. ⌜ r ≡ tangentOn side ⌝ }
 {
-    float::abs(side) * 0.5 * KAPPA
+    float::abs(side) * 0.5 * rect::KAPPA
 }
 
 // The command at place k of the ellipse in a box, around a centre, with these sides.

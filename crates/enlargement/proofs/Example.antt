@@ -165,10 +165,11 @@ larger-drawn : drawPath 1 (larger .vertices) 3 ≡ accepted (Move zero32 zero32 
 unfolding enlarge drawPath bezierSegment sub mul ofBits le
 larger-drawn = refl
 
--- the ellipse around (10, 0), and around (40, 0): an f32 by its bit pattern, whose first digits are its exponent's
+-- an f32 by its bit pattern
 abbrev f : ℕ → Float
 f n = ofBits binary32 n
 
+-- the ellipse around (10, 0), and around (40, 0)
 ellipse-drawn : drawItem (lent .row) (plate .items)
     ≡ accepted (
     Move (f 0x4120_0000) (f 0xc000_0000)

@@ -82,7 +82,9 @@ module _ (row : ItemRow) (items : List Float) (cs : List PathCommand) (e : drawS
 
   pub row-enough : isPath row ≡ true → Enough (row .count) cs
   unfolding shapeCommands
-  row-enough path = kinds-hold (λ (o : Outcome Shape). Drawn o → Enough (row .count) cs) row v vertices (λ p n d. not-both path p) (λ p n d. not-both path p) (λ r d. refused-accepted r cs d) drawn
+  row-enough path =
+      kinds-hold (λ (o : Outcome Shape). Drawn o → Enough (row .count) cs) row v vertices (λ p n d. not-both path p) (λ p n d. not-both path p)
+      (λ r d. refused-accepted r cs d) drawn
     where
       vertices : isPath row ≡ true → entriesOf row ≡ 6 * row .count → Drawn (accepted (Path (row .mark) (row .count))) → Enough (row .count) cs
       vertices p n d =
@@ -98,7 +100,8 @@ module _ (row : ItemRow) (items : List Float) (cs : List PathCommand) (e : drawS
 
   pub other-enough : isPath row ≡ false → Room
   unfolding shapeCommands rectPath ellipsePath
-  other-enough other = kinds-hold (λ (o : Outcome Shape). Drawn o → Room) row v (λ p n d. not-both p other) rectangle ellipse (λ r d. refused-accepted r cs d) drawn
+  other-enough other =
+      kinds-hold (λ (o : Outcome Shape). Drawn o → Room) row v (λ p n d. not-both p other) rectangle ellipse (λ r d. refused-accepted r cs d) drawn
     where
       rect-few : (b : Bool) (box : Bounds) (q : Float)
           → (length (codesOf (cond b (plainRect box) (roundRect box q))) ≤ 10) × (length (numbersOf (cond b (plainRect box) (roundRect box q))) ≤ 34)

@@ -64,7 +64,8 @@ isListed row =
     leb 1 (row .kind) && leb (row .kind) 14 && leb (row .hidden) 1 && isMark (row .kind) (row .mark)
     && (isPath row || eqb (row .count) 0)
 
--- how many numbers a row has in the item list: six a vertex for sh; centre, size and roundness for rc; centre and size for el; a kind that is not drawn has none
+-- how many numbers a row has in the item list: six a vertex for sh; centre, size and roundness for rc; centre and size for el;
+-- a kind that is not drawn has none
 unfoldable pub entriesOf : ItemRow → ℕ
 entriesOf row =
     cond (isPath row) (6 * row .count)

@@ -18,7 +18,8 @@ use Rattle.join.specs.Merge.{drawMerge}
 abbrev f : ℕ → Float
 f n = ofBits binary32 n
 
--- the six entries of a visible row at depth 0: an open path of so many vertices at a place, a rectangle, an ellipse and a polystar at a place, and an mm of mode 1
+-- the six entries of a visible row at depth 0: an open path of so many vertices at a place, a rectangle, an ellipse and a polystar at a place,
+-- and an mm of mode 1
 abbrev path : ℕ → ℕ → List ℕ
 path place count = 1 ∷ 0 ∷ 0 ∷ 0 ∷ place ∷ count ∷ []
 

@@ -18,8 +18,8 @@ pub struct Bounds {
     pub bottom: f32,
 }
 
-// ROUND_RECT_KAPPA of drawing_paths.rs.
-const KAPPA: f32 = 0.5522848;
+// ROUND_RECT_KAPPA of drawing_paths.rs, and document 02's number for an ellipse.
+pub const KAPPA: f32 = 0.5522848;
 
 // f32::EPSILON, 2^-23.
 const EPSILON: f32 = 0.00000011920929;
