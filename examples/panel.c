@@ -382,31 +382,39 @@ static void begin_caption(int x, int y, const char *colour)
     printf("<text x=\"%d\" y=\"%d\" text-anchor=\"middle\" fill=\"%s\">", x, y, colour);
 }
 
+/* How full the bag is, and if it is full, from where its ring has filled; below, the arcs that are drawn. */
 static void write_ring_caption(const Bag *bag, const Fill *fill, int x, int y)
 {
     begin_caption(x, y, INK);
-    printf("%d of %d, offset %g</text>\n", bag->coins, FULL, bag->offset);
+    if (bag->coins == 0)
+        printf("empty</text>\n");
+    else if (bag->coins == FULL)
+        printf("full, from the %s</text>\n", bag->offset < 0 ? "top" : "right");
+    else
+        printf("%d of %d coins</text>\n", bag->coins, FULL);
     if (fill->range_count == 0) {
         begin_caption(x, y + LINE, PALE_INK);
-        printf("nothing</text>\n");
+        printf("no arc</text>\n");
     }
     for (size_t i = 0; i < fill->range_count; i++) {
         begin_caption(x, y + LINE * (int)(i + 1), colours[i]);
-        printf("%s%.4g to %.4g: %.2f</text>\n", fill->whole ? "whole, " : "", fill->ranges[2 * i],
-               fill->ranges[2 * i + 1], fill->cuts[3 * i + 1]);
+        printf("%s %.2f long</text>\n", fill->whole ? "the whole ring," : "an arc", fill->cuts[3 * i + 1]);
     }
 }
 
+/* How many coins the stack shows, and which of them is drawn first. */
 static void write_stack_caption(const Fill *fill, int x, int y)
 {
     begin_caption(x, y, INK);
-    printf("%zu %s</text>\n", fill->copy_count, fill->copy_count == 1 ? "copy" : "copies");
-    if (fill->copy_count == 0)
+    if (fill->copy_count == 0) {
+        printf("no coins</text>\n");
+        return;
+    }
+    printf("a stack of %zu</text>\n", fill->copy_count);
+    if (fill->copy_count == 1)
         return;
     begin_caption(x, y + LINE, PALE_INK);
-    for (size_t i = 0; i < fill->copy_count; i++)
-        printf("%s%u", i == 0 ? "" : " ", (unsigned)fill->order[i]);
-    printf("</text>\n");
+    printf("%s drawn first</text>\n", fill->order[0] == 0 ? "lowest" : "highest");
 }
 
 static void write_bag(const Panel *panel, size_t i, int top)
@@ -441,9 +449,9 @@ static void write_title(void)
 {
     static const char *const lines[] = {
         "A frame is a round rectangle and the bag's mouth, merged; the mouth is a rectangle or an ellipse.",
-        "A ring is one path, which starts at the dot, trimmed to the bag's count: below it, its visible ranges, as "
-        "parts of the path, and how long they are.",
-        "A stack is one coin, an ellipse, repeated: below it, the order in which the copies are drawn.",
+        "A ring is one path, which starts at the dot, trimmed to the bag's count: one arc, or two where it runs past "
+        "its start, and how long they are.",
+        "A stack is one coin, an ellipse, repeated: once for every ten coins in the bag, and once for those left over.",
     };
     printf("<text x=\"%d\" y=\"%d\" font-size=\"18\" font-weight=\"bold\" fill=\"" INK "\">The bag panel of a coin "
            "sorter</text>\n",

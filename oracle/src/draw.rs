@@ -30,8 +30,9 @@ fn compare_ellipses(random: &mut Random, count: usize, report: &mut Report) {
     let edges = edges();
     for &x in &edges {
         for &y in &edges {
-            for &side in &edges {
-                let numbers = vec![x, y, side, x];
+            for &width in &edges {
+                let height = edges[random.between(0, edges.len() as i64 - 1) as usize];
+                let numbers = vec![x, y, width, height];
                 judge(random, report, &mut items, &Input::Item { row: vec![EL, 0, 0, 0, 0, 0], numbers });
             }
         }

@@ -71,6 +71,10 @@ module _ (cs : List PathCommand) where
   pub count-end : (k sum : ℕ) → Counting k sum → length cs ≤ k → sum ≡ length (numbersOf cs)
   count-end k sum c h = omega (arith, ap (λ (l : List PathCommand). length (numbersOf l)) (drop-of-length-le cs {i = k} h))
 
+-- the command at a place whose number is known
+pub at-known : (l : List PathCommand) (n k : ℕ) (r : PathCommand) → k ≡ n → r ≡ getD l n Close → r ≡ getD l k Close
+at-known l n k r h e = rw h e
+
 -- a list that ends with its only close has a close at each place from there on, by the default too
 pub closes : (l : List PathCommand) (n k : ℕ) → drop n l ≡ Close ∷ [] → n ≤ k → getD l k Close ≡ Close
 closes l n k e h =

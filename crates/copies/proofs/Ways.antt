@@ -36,7 +36,7 @@ use Rattle.repeater.specs.Repeater.{mostCopies, mostOffset, copyCount, copyTran
 use Rattle.command.specs.declared.Verdict.{Verdict}
 use Rattle.command.specs.declared.Verdict.the-variants.{Refused, Passed}
 use Rattle.command.specs.Verdicts.{verdictOf}
-use Rattle.command.proofs.Verdicts as behind
+use Rattle.command.proofs.Verdicts.{behind-refused, behind-passed, all-pass}
 use Rattle.copies.specs.declared.Written.{Written}
 use Rattle.copies.specs.Outcomes.{writtenNumber, writtenCount}
 use Rattle.copies.specs.Order.{rising, falling, orderOf, copyOrder}
@@ -64,15 +64,15 @@ module _ (r : RepeaterStyle) where
       verdict-beyond t = rw (sym x-is ∙ few, sym y-is ∙ t)
 
       module _ (inside : y ≡ true) where
-        pub verdict-sound : eq (r .rotation) zero32 ≡ true → verdictOf Passed ≡ checked (repeaterChecks r) (accepted tt)
+        pub verdict-passed : eq (r .rotation) zero32 ≡ true → verdictOf Passed ≡ checked (repeaterChecks r) (accepted tt)
         unfolding repeaterChecks
-        verdict-sound t = rw (sym x-is ∙ few, sym y-is ∙ inside, t)
+        verdict-passed t = rw (sym x-is ∙ few, sym y-is ∙ inside, t)
 
         pub verdict-turned : eq (r .rotation) zero32 ≡ false → verdictOf (Refused Unsupported) ≡ checked (repeaterChecks r) (accepted tt)
         unfolding repeaterChecks
         verdict-turned t = rw (sym x-is ∙ few, sym y-is ∙ inside, t)
 
-pub ruleset verdicts = (many-copies, many-offset, verdict-many, verdict-beyond, verdict-sound, verdict-turned)
+pub ruleset verdicts = (many-copies, many-offset, verdict-many, verdict-beyond, verdict-passed, verdict-turned)
 
 -- ---- put_rising, put_falling
 -- the rest, written on the list as it is, gives the whole on the list as it was
@@ -310,33 +310,33 @@ module _ (r : RepeaterStyle) (pass : AllPass (repeaterChecks r)) where
 -- ---- copy_order, copy_transform
 module _ (r : RepeaterStyle) (v : Verdict) (v-is : verdictOf v ≡ checked (repeaterChecks r) (accepted tt)) where
   module _ (f : Refusal) (e : v ≡ Refused f) where
-    pub order-fault : (l : List ℕ) → Filled (fitted (inBuffer (length l)) (orderAnswer r)) (refusalNumber f) 0 l l
+    pub order-refused : (l : List ℕ) → Filled (fitted (inBuffer (length l)) (orderAnswer r)) (refusalNumber f) 0 l l
     unfolding orderAnswer
-    order-fault l = turned-back l f (orderAnswer r) (behind.behind-refused (repeaterChecks r) v v-is f e (accepted (copyOrder r)))
+    order-refused l = turned-back l f (orderAnswer r) (behind-refused (repeaterChecks r) v v-is f e (accepted (copyOrder r)))
 
-    pub copy-fault : (copy : ℕ) (l : List Float) → Filled (fitted (inBuffer (length l)) (transformAnswer r copy)) (refusalNumber f) 0 l l
+    pub copy-refused : (copy : ℕ) (l : List Float) → Filled (fitted (inBuffer (length l)) (transformAnswer r copy)) (refusalNumber f) 0 l l
     unfolding transformAnswer
-    copy-fault copy l = turned-back l f (transformAnswer r copy) (behind.behind-refused (repeaterChecks r) v v-is f e (copyAnswer r copy))
+    copy-refused copy l = turned-back l f (transformAnswer r copy) (behind-refused (repeaterChecks r) v v-is f e (copyAnswer r copy))
 
   module _ (e : v ≡ Passed) where
-    pub all-pass : AllPass (repeaterChecks r)
-    all-pass = behind.all-pass (repeaterChecks r) v v-is e
+    pub repeater-passed : AllPass (repeaterChecks r)
+    repeater-passed = all-pass (repeaterChecks r) v v-is e
 
     pub order-few : (n : ℕ) → n ≡ copyCount r → n ≤ 4096
-    order-few n n-is = rw n-is (count-few r all-pass)
+    order-few n n-is = rw n-is (count-few r repeater-passed)
 
     module _ (number count : ℕ) where
-      pub order-sound : (n : ℕ) → n ≡ copyCount r → (l l' : List ℕ) → Filled (fitted (inBuffer (length l)) (accepted (orderOf (r .mode) n))) number count l l'
+      pub order-passed : (n : ℕ) → n ≡ copyCount r → (l l' : List ℕ) → Filled (fitted (inBuffer (length l)) (accepted (orderOf (r .mode) n))) number count l l'
           → Filled (fitted (inBuffer (length l)) (orderAnswer r)) number count l l'
       unfolding orderAnswer copyOrder
-      order-sound n n-is l l' F = rw (behind.behind-passed (repeaterChecks r) v v-is e (accepted (copyOrder r)), ← n-is) F
+      order-passed n n-is l l' F = rw (behind-passed (repeaterChecks r) v v-is e (accepted (copyOrder r)), ← n-is) F
 
-      pub copy-sound : (copy : ℕ) (l l' : List Float) → Filled (fitted (inBuffer (length l)) (copyAnswer r copy)) number count l l'
+      pub copy-passed : (copy : ℕ) (l l' : List Float) → Filled (fitted (inBuffer (length l)) (copyAnswer r copy)) number count l l'
           → Filled (fitted (inBuffer (length l)) (transformAnswer r copy)) number count l l'
       unfolding transformAnswer
-      copy-sound copy l l' F = rw (behind.behind-passed (repeaterChecks r) v v-is e (copyAnswer r copy)) F
+      copy-passed copy l l' F = rw (behind-passed (repeaterChecks r) v v-is e (copyAnswer r copy)) F
 
-pub ruleset calls = (order-fault, copy-fault, all-pass, copies-within, order-few, order-sound, copy-sound)
+pub ruleset calls = (order-refused, copy-refused, repeater-passed, copies-within, order-few, order-passed, copy-passed)
 
 -- ---- write_copy
 pub finite-copy : (m : Matrix) (o : Float) (x : Bool) → x ≡ allFinite (m .a ∷ m .b ∷ m .c ∷ m .d ∷ m .e ∷ m .f ∷ o ∷ []) → x ≡ allFinite (copyNumbers m o)

@@ -7,8 +7,8 @@ use mathlib.Core.List.{List}
 use Prim.Native.Nat.{ℕ, _+_, _*_, _≤_, _<_}
 use native.Mathlib.Omega.{arith}
 use lib.Dec.{eqb}
-use lib.Ieee.{Float, nan}
-use lib.ListN.{length, getD, take, drop, length-drop}
+use lib.Ieee.{Float}
+use lib.ListN.{length, take, drop, length-drop}
 use borrow.Author.Tests.{eqb-false, ltb-false, not-false}
 use Rattle.ieee.specs.Limit.{allWithin}
 use Rattle.command.specs.declared.PathCommand.{PathCommand}

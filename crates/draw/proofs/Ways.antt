@@ -85,8 +85,8 @@ module _ (closed : ℕ) (v : List Float) (count : ℕ) where
         rw (behind-refused (pathChecks closed v count) verdict verdict-is r e (accepted (pathCommands closed v count))) (both-unfilled r codes numbers)
 
     pub path-drawn-whole : (codes codes' : List ℕ) (numbers numbers' : List Float) (r : Counts) → verdict ≡ Passed
-        → FilledBoth (fitted (inBuffers (length codes) (length numbers)) (accepted (shapeCommands (Path closed count) v))) (countsNumber r) (firstCount r) (secondCount r)
-        codes codes' numbers numbers'
+        → FilledBoth (fitted (inBuffers (length codes) (length numbers)) (accepted (shapeCommands (Path closed count) v)))
+        (countsNumber r) (firstCount r) (secondCount r) codes codes' numbers numbers'
         → FilledBoth (fitted (inBuffers (length codes) (length numbers)) (drawPath closed v count)) (countsNumber r) (firstCount r) (secondCount r)
         codes codes' numbers numbers'
     unfolding drawPath shapeCommands

@@ -16,7 +16,8 @@ ghost use Rattle.draw.specs.Checks.{outcomeOf, Ready};
 ghost use Rattle.draw.specs.Paths.{pathChecks, drawPath};
 ghost use Rattle.draw.specs.Items.{isDrawable, isHeldBack, hasNoVertices, sourceChecks, shapeDrawn, drawSource, drawItem};
 
-// What a row that passes its checks comes to: still a refusal, or a shape and the place where its numbers start.
+// What the checks of a row and the making of its shape come to: a refusal, or a shape and the place where its numbers
+// start.
 pub enum Checked {
     Fault(Refusal),
     Sound(usize, Shape),

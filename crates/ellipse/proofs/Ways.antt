@@ -8,11 +8,10 @@ use Rattle.ieee.specs.Operators.{_⊕_, _⊖_, _⊗_}
 use Rattle.ieee.specs.Sign.{abs}
 use Rattle.command.specs.declared.PathCommand.the-variants.{Cubic, Close}
 use Rattle.command.specs.Commands.{numbersOf}
-use Rattle.command.proofs.Passes.{closes}
+use Rattle.command.proofs.Passes.{at-known, closes}
 use Rattle.rect.specs.declared.Bounds.{Bounds}
 use Rattle.rect.specs.Bounds.{half}
 use Rattle.rect.specs.Rect.{tangentOf}
-use Rattle.rect.proofs.Ways.{at-known}
 use Rattle.ellipse.specs.Ellipse.{tangentOn, ellipseIn, ellipsePath}
 
 pub tangent-is : (side positive : Float) → positive ≡ abs side → tangentOf (positive ⊗ half) ≡ tangentOn side

@@ -1,5 +1,7 @@
 -- The path of an ellipse: request U1 of document 02, whose words are quoted. `build_ellipse_path` of drawing_paths.rs works the same box out and hands it to
--- `from_oval`, whose body is in no file. Definitions only.
+-- `from_oval`, whose body is in no file. The request's other sentences stand elsewhere: 'four numbers' in `entriesOf` (crates/item/specs/Rows.antt),
+-- '5 no longer meets an el' in `isHeldBack` (crates/draw/specs/Items.antt), 'on the 1/1024 grid ellipses enlarge too' in the claim over all calls
+-- (crates/enlargement/specs/Claim.antt). Definitions only.
 use mathlib.Core.List.{List, [], _∷_}
 use lib.Ieee.{Float}
 use Rattle.ieee.specs.Operators.{_⊕_, _⊖_, _⊗_}

@@ -1,12 +1,12 @@
 -- An estimate is never less than a drawing of so many vertices writes, as a list or as a row, and it is refused only where every drawing of so many is, by the same number.
 -- A rectangle or an ellipse writes at most 10 codes and 34 numbers. Assumes nothing.
 use mathlib.Core.Path.{_≡_, sym, ap, _∙_}
-use mathlib.Core.Bool.{Bool, true, false, cond, _&&_, true≢false}
+use mathlib.Core.Bool.{Bool, true, false, _&&_, true≢false}
 use mathlib.Core.List.{List, [], _∷_}
 use Prim.Native.Nat.{ℕ, _+_, _*_, _≤_, _<_}
 use native.Mathlib.Omega.{arith}
 use lib.Dec.{eqb, ltb}
-use lib.Ieee.{Float, nan, le}
+use lib.Ieee.{Float, nan}
 use lib.ListN.{length, getD, drop}
 use borrow.Author.Tests.{eqb-false}
 use Rattle.command.specs.declared.PathCommand.{PathCommand}
@@ -15,11 +15,13 @@ use Rattle.command.specs.declared.Refusal.the-variants.{Empty, TooMany}
 use Rattle.command.specs.Commands.{codesOf, numbersOf}
 use Rattle.command.specs.Outcomes.{Outcome, refused, accepted, mapped, listOf, _gives_, checked}
 use Rattle.command.proofs.Outcomes.{refused-accepted}
+use Rattle.command.proofs.Passes.{codes-length}
 use Rattle.path.specs.Path.{pathCommands}
 use Rattle.path.proofs.Counts.{path-codes, path-numbers}
-use Rattle.rect.specs.declared.Bounds.{Bounds}
-use Rattle.rect.specs.Rect.{epsilon, cornerRadius, plainRect, roundRect, rectPath}
+use Rattle.rect.specs.Rect.{cornerRadius, rectPath}
+use Rattle.rect.proofs.Ways.{rect-room}
 use Rattle.ellipse.specs.Ellipse.{ellipsePath}
+use Rattle.ellipse.proofs.Ways.{ellipse-count, ellipse-numbers}
 use Rattle.shape.specs.declared.Shape.{Shape}
 use Rattle.shape.specs.declared.Shape.the-variants.{Path, Ellipse}
 use Rattle.shape.specs.Shape.{boundsOf, shapeCommands}
@@ -99,22 +101,18 @@ module _ (row : ItemRow) (items : List Float) (cs : List PathCommand) (e : drawS
   Room = (length (codesOf cs) ≤ 10) × (length (numbersOf cs) ≤ 34)
 
   pub other-enough : isPath row ≡ false → Room
-  unfolding shapeCommands rectPath ellipsePath
+  unfolding shapeCommands
   other-enough other =
       kinds-hold (λ (o : Outcome Shape). Drawn o → Room) row v (λ p n d. not-both p other) rectangle ellipse (λ r d. refused-accepted r cs d) drawn
     where
-      rect-few : (b : Bool) (box : Bounds) (q : Float)
-          → (length (codesOf (cond b (plainRect box) (roundRect box q))) ≤ 10) × (length (numbersOf (cond b (plainRect box) (roundRect box q))) ≤ 34)
-      rect-few true box q = unfold plainRect in (omega arith, omega arith)
-      rect-few false box q = unfold roundRect in (omega arith, omega arith)
-
       rectangle : isPath row ≡ false → entriesOf row ≡ 5 → Drawn (accepted (rectOf v)) → Room
       rectangle p n d =
           let q = cornerRadius (getD v 2 nan) (getD v 3 nan) (getD v 4 nan) in
-          let is : cond (le q epsilon) (plainRect (boundsOf v)) (roundRect (boundsOf v) q) ≡ cs = ap listOf d in
-          rw (← is) (rect-few (le q epsilon) (boundsOf v) q)
+          let is : rectPath (boundsOf v) q ≡ cs = ap listOf d in
+          rw (← is, codes-length (rectPath (boundsOf v) q)) (rect-room (boundsOf v) q)
 
       ellipse : isPath row ≡ false → entriesOf row ≡ 4 → Drawn (accepted Ellipse) → Room
       ellipse p n d =
-          let is : ellipsePath (getD v 0 nan) (getD v 1 nan) (getD v 2 nan) (getD v 3 nan) ≡ cs = ap listOf d in
-          rw (← is) (omega arith, omega arith)
+          let x = getD v 0 nan in let y = getD v 1 nan in let w = getD v 2 nan in let h = getD v 3 nan in
+          let is : ellipsePath x y w h ≡ cs = ap listOf d in
+          rw (← is, codes-length (ellipsePath x y w h)) (omega (arith, ellipse-count x y w h), omega (arith, ellipse-numbers x y w h))

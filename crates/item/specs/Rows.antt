@@ -1,4 +1,5 @@
--- Item rows: six numbers each, lent as one list. The rules of document 01 for a row by itself. Definitions only.
+-- Item rows: six numbers each, lent as one list. The rules of document 01 for a row by itself, and document 02's for an ellipse (U1).
+-- Definitions only.
 use Prim.Native.Nat.{ℕ, _+_, _*_}
 use mathlib.Core.Bool.{Bool, cond, _&&_, _||_}
 use mathlib.Core.List.{List}

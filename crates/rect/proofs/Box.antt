@@ -9,14 +9,13 @@ use Rattle.ieee.specs.Operators.{_⊕_}
 use Rattle.ieee.specs.Sign.{abs}
 use Rattle.ieee.specs.Limit.{Bounded}
 use Rattle.ieee.specs.Single.{Single}
-use Rattle.ieee.specs.Fused.{fma}
 use Rattle.ieee.specs.Grid.{On, Twin}
 use Rattle.ieee.proofs.Bounds.{Times, reach-whole, abs-bounded, add-bounded, fma-times}
 use Rattle.ieee.proofs.Single.{fma-single, add-single}
 use Rattle.ieee.proofs.Grid.{neg-on}
 use Rattle.ieee.proofs.Twins.{finer, twin-abs, twin-add, twin-fma-right}
 use Rattle.rect.specs.declared.Bounds.{Bounds}
-use Rattle.rect.specs.Bounds.{half, rectBounds}
+use Rattle.rect.specs.Bounds.{half, nearSide, rectBounds}
 
 -- ---- bounded: in units of 2 ^ 19, a near side is at most 3 and a far one at most 5, where centre and size are at most 2
 -- n times 2 ^ 19
@@ -27,7 +26,7 @@ minus-half-times : Times (part 2) (part 1) (neg half)
 unfolding neg ofBits
 minus-half-times = lit≤ tt
 
-near : (c w : Float) → Bounded (part 2) c → Bounded (part 2) w → Bounded (part 3) (fma binary32 (abs w) (neg half) c)
+near : (c w : Float) → Bounded (part 2) c → Bounded (part 2) w → Bounded (part 3) (nearSide c w)
 near c w C W =
     fma-times binary32 (part 2) (part 1) (part 2) (part 3) (abs w) (neg half) c (reach-whole binary32 (part 3) (lit< tt))
     (abs-bounded (part 2) w W) minus-half-times C
@@ -50,8 +49,8 @@ bounds-bounded cx cy w h X Y W H =
     record {
       left-bounded = l;
       top-bounded = t;
-      right-bounded = far (fma binary32 (abs w) (neg half) cx) w l W;
-      bottom-bounded = far (fma binary32 (abs h) (neg half) cy) h t H;
+      right-bounded = far (nearSide cx w) w l W;
+      bottom-bounded = far (nearSide cy h) h t H;
     }
 
 -- ---- f32: an operation rounded each side
@@ -66,8 +65,8 @@ unfolding rectBounds
 bounds-single cx cy w h = record {
   left-single = fma-single (abs w) (neg half) cx;
   top-single = fma-single (abs h) (neg half) cy;
-  right-single = add-single (fma binary32 (abs w) (neg half) cx) (abs w);
-  bottom-single = add-single (fma binary32 (abs h) (neg half) cy) (abs h);
+  right-single = add-single (nearSide cx w) (abs w);
+  bottom-single = add-single (nearSide cy h) (abs h);
 }
 
 -- ---- enlarged
@@ -83,10 +82,10 @@ pub record BoundsTwin (k : ℕ) (box box' : Bounds) : Type 0 where
 
 module _ {k : ℕ} (K : k ≤ 6) where
   -- centre - size / 2
-  near-twin : {w w' c c' : Float} → Twin k 10 13 w w' → Twin k 10 13 c c' → Twin k 11 14 (fma binary32 w (neg half) c) (fma binary32 w' (neg half) c')
+  near-twin : {w w' c c' : Float} → Twin k 10 13 w w' → Twin k 10 13 c c' → Twin k 11 14 (nearSide c w) (nearSide c' w')
   near-twin {w} {w'} {c} {c'} W C =
-      twin-fma-right binary32 k 1 0 10 13 13 13 (neg half) w w' c c' (lit≤ tt) (lit≤ tt) (lit≤ tt) (omega arith) (neg-on 1 0 half half-on) W
-      (finer 11 13 (lit≤ tt) (lit≤ tt) C)
+      twin-fma-right binary32 k 1 0 10 13 13 13 (neg half) (abs w) (abs w') c c' (lit≤ tt) (lit≤ tt) (lit≤ tt) (omega arith) (neg-on 1 0 half half-on)
+      (twin-abs k 10 13 w w' W) (finer 11 13 (lit≤ tt) (lit≤ tt) C)
 
   far-twin : {l l' w w' : Float} → Twin k 11 14 l l' → Twin k 10 13 w w' → Twin k 11 15 (l ⊕ w) (l' ⊕ w')
   far-twin {l} {l'} {w} {w'} L W = twin-add binary32 k 11 14 l l' w w' (lit≤ tt) (omega arith) L (finer 11 14 (lit≤ tt) (lit≤ tt) W)
@@ -97,6 +96,6 @@ module _ {k : ℕ} (K : k ≤ 6) where
   bounds-twin {w = w} {w' = w'} {h = h} {h' = h'} CX CY W H =
       let width = twin-abs k 10 13 w w' W in
       let height = twin-abs k 10 13 h h' H in
-      let left = near-twin width CX in
-      let top = near-twin height CY in
+      let left = near-twin W CX in
+      let top = near-twin H CY in
       record { left-twin = left; top-twin = top; right-twin = far-twin left width; bottom-twin = far-twin top height }

@@ -1,7 +1,6 @@
 -- What each way out of a function of this crate owes, as the code meets it. Assumes nothing.
 use mathlib.Core.Path.{_≡_, refl, sym}
-use mathlib.Core.Bool.{Bool, true, false}
-use mathlib.Core.List.{List}
+use mathlib.Core.Bool.{Bool, true, false, cond}
 use Prim.Native.Nat.{ℕ, suc, _≤_}
 use native.Mathlib.Omega.{arith}
 use lib.ListN.{length, getD}
@@ -11,9 +10,8 @@ use Rattle.ieee.specs.Operators.{_⊕_, _⊗_}
 use Rattle.ieee.specs.Sign.{abs}
 use Rattle.ieee.specs.Choice.{min, clamp}
 use Rattle.ieee.specs.Fused.{fma}
-use Rattle.command.specs.declared.PathCommand.{PathCommand}
 use Rattle.command.specs.declared.PathCommand.the-variants.{Close}
-use Rattle.command.proofs.Passes.{closes}
+use Rattle.command.proofs.Passes.{at-known, closes}
 use Rattle.command.specs.Commands.{numbersOf}
 use Rattle.rect.specs.declared.Bounds.{Bounds}
 use Rattle.rect.specs.Bounds.{half, nearSide, rectBounds}
@@ -34,10 +32,6 @@ unfolding cornerRadius
 radius-is w h roundness width height smaller radius a b s r = rw (← a, ← b, ← s) r
 
 -- ---- the commands
--- the command at a place whose number is known, and past the last of them
-pub at-known : (l : List PathCommand) (n k : ℕ) (r : PathCommand) → k ≡ n → r ≡ getD l n Close → r ≡ getD l k Close
-at-known l n k r h e = rw h e
-
 -- omega takes at most six `≢` at once
 next : {n k : ℕ} → n ≤ k → (k ≡ n → ⊥) → suc n ≤ k
 next h g = omega arith
@@ -82,5 +76,15 @@ module _ (box : Bounds) (q : Float) (t : Bool) (is : t ≡ le q epsilon) where
     pub round-numbers : 34 ≡ length (numbersOf (rectPath box q))
     unfolding roundRect
     round-numbers = rw (rect-round h)
+
+-- how many commands and numbers there are at most
+pub rect-room : (box : Bounds) (q : Float) → (length (rectPath box q) ≤ 10) × (length (numbersOf (rectPath box q)) ≤ 34)
+unfolding rectPath
+rect-room box q = go (le q epsilon)
+  where
+    go : (t : Bool)
+        → (length (cond t (plainRect box) (roundRect box q)) ≤ 10) × (length (numbersOf (cond t (plainRect box) (roundRect box q))) ≤ 34)
+    go true = unfold plainRect in (omega arith, omega arith)
+    go false = unfold roundRect in (omega arith, omega arith)
 
 pub ruleset ways = (side-is, bounds-are, radius-is, at-known, plain-past, round-past, plain-count, plain-numbers, round-count, round-numbers)

@@ -24,8 +24,8 @@ pub const KAPPA: f32 = 0.5522848;
 // f32::EPSILON, 2^-23.
 const EPSILON: f32 = 0.00000011920929;
 
-// The side that stands half a size before the centre. It is called, not inlined, so that what works a box out is small
-// and is inlined wherever there is one: else its sides would go through memory.
+// The side that stands half a size before the centre. With a function of its own for it `rect_bounds` is small enough
+// for the compiler to inline it: else a box would go through memory.
 fn near_side(centre: f32, size: f32) -> f32
     ensures { λ r. ⌜ r ≡ nearSide centre size ⌝ }
 {

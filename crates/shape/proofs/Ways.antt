@@ -1,6 +1,6 @@
 -- What each way out of a function of this crate owes, as the code meets it. Assumes nothing.
 use mathlib.Core.Path.{_≡_, sym, _∙_}
-use mathlib.Core.Bool.{Bool, true, false, cond}
+use mathlib.Core.Bool.{Bool, true, false}
 use mathlib.Core.List.{List}
 use Prim.Native.Nat.{ℕ, _+_, _*_, _≤_, _<_}
 use native.Mathlib.Nat.{zero-add, lt-of-le-of-lt, mul-le-mul-right}
@@ -26,7 +26,7 @@ use Rattle.path.proofs.Paths.{pathCommands-length}
 use Rattle.path.proofs.Counts.{path-numbers}
 use Rattle.rect.specs.declared.Bounds.{Bounds}
 use Rattle.rect.specs.Rect.{epsilon, plainRect, roundRect, rectPath}
-use Rattle.rect.proofs.Ways.{rect-plain, rect-round}
+use Rattle.rect.proofs.Ways.{rect-plain, rect-round, rect-room}
 use Rattle.ellipse.specs.Ellipse.{ellipseIn, ellipsePath}
 use Rattle.ellipse.proofs.Ways.{ellipse-count, ellipse-numbers}
 use Rattle.shape.specs.declared.Shape.{Shape}
@@ -81,12 +81,8 @@ module _ (radius : Float) (v : List Float) where
   rect-numbers m f = f _
 
   pub rect-most : length (numbersOf (shapeCommands (Rect radius) v)) ≤ 34
-  unfolding shapeCommands rectPath
-  rect-most = go (le radius epsilon) (boundsOf v)
-    where
-      go : (t : Bool) (b : Bounds) → length (numbersOf (cond t (plainRect b) (roundRect b radius))) ≤ 34
-      go true b = unfold plainRect in omega arith
-      go false b = unfold roundRect in omega arith
+  unfolding shapeCommands
+  rect-most = rect-room (boundsOf v) radius .1
 
   module _ (b : Bounds) (t : Bool) (here : b ≡ boundsOf v) (is : t ≡ le radius epsilon) where
     pub plain-is : t ≡ true → shapeCommands (Rect radius) v ≡ plainRect b

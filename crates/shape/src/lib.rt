@@ -193,8 +193,8 @@ pub fn write_at(
     }
 }
 
-// At least as many numbers as a shape has, without a look at its list. In a box a round rectangle has the most; one
-// number for both kinds keeps this small enough to be inlined.
+// At least as many numbers as a shape has, without a look at its list. Rectangles and ellipses have at most the 34 of a
+// round rectangle; one number for both keeps this small enough to be inlined.
 fn enough_for(shape: Shape, list: &[f32]) -> usize
     requires { ⌜ Fit shape (now list) ⌝ }
     ensures { λ r. ⌜ length (numbersOf (shapeCommands shape (now (list .entry)))) ≤ r ⌝ }
