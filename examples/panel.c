@@ -1,6 +1,7 @@
 /* A bag panel of a coin sorter, written to standard output as an SVG page. Each bag has a frame with a mouth, square or
-   round, a ring that shows how full it is, and a stack of coins. The panel is drawn at size 1, and from enlarged input
-   at size 2. The program compares the two and fails where the second is not the first, exactly enlarged.
+   round, a ring that shows how full it is, and a stack of coins. Of each drawing the panel first asks what it needs, and
+   then draws it into buffers of just that size. The panel is drawn at size 1, and from enlarged input at size 2. The
+   program compares the two and fails where the second is not the first, exactly enlarged.
 
        gcc -std=c99 -Iinclude examples/panel.c target/staticlib/libjengafir.a -o panel && ./panel >panel.svg
 
@@ -65,11 +66,6 @@ static const uint32_t frame_rows[MOUTHS][FRAME_ROWS][6] = {FRAME(JENGAFIR_RC), F
 static const uint32_t ring_row[6] = {JENGAFIR_SH, 0, 0, 1, RING_PLACE, 4};
 static const uint32_t coin_row[6] = {JENGAFIR_EL, 0, 0, 0, COIN_PLACE, 0};
 
-/* For how many vertices there has to be room: no source of a frame needs more than eight; the ring has four, and the coin, an
-   ellipse, needs as much as four. */
-#define FRAME_ROOM 8
-#define ROW_ROOM 4
-
 /* The form of a bag's mouth, how many coins it holds, from where its ring is shown, in degrees from the right, and the
    repeater's mode. */
 typedef struct {
@@ -123,24 +119,29 @@ static void must_accept(const char *call, uint32_t refusal)
     }
 }
 
-/* Buffers for the drawings of so many sources, each with room for so many vertices. */
-static Path buffers(size_t sources, size_t vertices)
+/* Buffers with so many places and no more. */
+static Path buffers(size_t codes_len, size_t numbers_len)
 {
     Path path = {0};
-    size_t codes_needed, numbers_needed;
-    uint32_t refusal = jengafir_tray_estimate(vertices, &codes_needed, &numbers_needed);
-    must_accept("jengafir_tray_estimate", refusal);
-    path.codes_len = sources * codes_needed;
-    path.numbers_len = sources * numbers_needed;
-    path.codes = malloc(path.codes_len * sizeof *path.codes);
-    path.numbers = malloc(path.numbers_len * sizeof *path.numbers);
+    path.codes_len = codes_len;
+    path.numbers_len = numbers_len;
+    path.codes = malloc(codes_len * sizeof *path.codes);
+    path.numbers = malloc(numbers_len * sizeof *path.numbers);
     if (path.codes == NULL || path.numbers == NULL)
         fail("no memory for a path");
     return path;
 }
 
+static size_t bytes_of(const Path *path)
+{
+    return path->codes_len * sizeof *path->codes + path->numbers_len * sizeof *path->numbers;
+}
+
+/* A drawing fills buffers of just the size that it was said to need, and has a length. */
 static void measure(Path *path)
 {
+    if (path->code_count != path->codes_len || path->number_count != path->numbers_len)
+        fail("a drawing does not fill what it needs");
     uint32_t refusal =
         jengafir_length(path->codes, path->code_count, path->numbers, path->number_count, &path->length);
     must_accept("jengafir_length", refusal);
@@ -148,10 +149,13 @@ static void measure(Path *path)
 
 static Path draw_frame(const uint32_t rows[FRAME_ROWS][6], const float *enlarged)
 {
-    Path path = buffers(2, FRAME_ROOM);
-    uint32_t refusal =
-        jengafir_merge(rows[0], 6 * FRAME_ROWS, FRAME_ROWS, enlarged, ITEMS, path.codes, path.codes_len, path.numbers,
-                       path.numbers_len, &path.code_count, &path.number_count);
+    size_t codes_needed, numbers_needed;
+    uint32_t refusal = jengafir_merge_need(rows[0], 6 * FRAME_ROWS, FRAME_ROWS, enlarged, ITEMS, &codes_needed,
+                                           &numbers_needed);
+    must_accept("jengafir_merge_need", refusal);
+    Path path = buffers(codes_needed, numbers_needed);
+    refusal = jengafir_merge(rows[0], 6 * FRAME_ROWS, FRAME_ROWS, enlarged, ITEMS, path.codes, path.codes_len,
+                             path.numbers, path.numbers_len, &path.code_count, &path.number_count);
     must_accept("jengafir_merge", refusal);
     measure(&path);
     return path;
@@ -159,10 +163,12 @@ static Path draw_frame(const uint32_t rows[FRAME_ROWS][6], const float *enlarged
 
 static Path draw_row(const uint32_t row[6], const float *enlarged)
 {
-    Path path = buffers(1, ROW_ROOM);
-    uint32_t refusal =
-        jengafir_draw_item(row, 6, enlarged, ITEMS, path.codes, path.codes_len, path.numbers, path.numbers_len,
-                           &path.code_count, &path.number_count);
+    size_t codes_needed, numbers_needed;
+    uint32_t refusal = jengafir_item_need(row, 6, enlarged, ITEMS, &codes_needed, &numbers_needed);
+    must_accept("jengafir_item_need", refusal);
+    Path path = buffers(codes_needed, numbers_needed);
+    refusal = jengafir_draw_item(row, 6, enlarged, ITEMS, path.codes, path.codes_len, path.numbers, path.numbers_len,
+                                 &path.code_count, &path.number_count);
     must_accept("jengafir_draw_item", refusal);
     measure(&path);
     return path;
@@ -254,6 +260,8 @@ static void must_stay(const char *what, const float *small, const float *large, 
 
 static void compare_paths(const Path *small, const Path *large)
 {
+    if (small->codes_len != large->codes_len || small->numbers_len != large->numbers_len)
+        fail("a path needs other buffers at the larger size");
     if (small->code_count != large->code_count || small->number_count != large->number_count ||
         memcmp(small->codes, large->codes, small->code_count) != 0)
         fail("a path has other commands at the larger size");
@@ -302,7 +310,7 @@ static void compare(const Panel *small, const Panel *large)
 #define TITLE_HEIGHT 96
 #define HEADING_HEIGHT 30
 #define CAPTION_HEIGHT 56
-#define FOOT_HEIGHT 48
+#define FOOT_HEIGHT 63
 #define PANEL_HEIGHT(size) (HEADING_HEIGHT + (MOUTH_HEIGHT + STACK_HEIGHT) * (size) + 2 * CAPTION_HEIGHT)
 #define PAGE_WIDTH (COLUMN * (int)BAGS + 2 * MARGIN)
 #define PAGE_HEIGHT (TITLE_HEIGHT + PANEL_HEIGHT(1) + PANEL_HEIGHT(FACTOR) + FOOT_HEIGHT)
@@ -461,7 +469,7 @@ static void write_title(void)
                lines[i]);
 }
 
-static void write_foot(void)
+static void write_foot(const Panel *panel)
 {
     int y = PAGE_HEIGHT - FOOT_HEIGHT + LINE;
     printf("<text x=\"%d\" y=\"%d\" fill=\"" INK "\">Size %d compared with size 1, %zu numbers: the commands, ranges, "
@@ -470,6 +478,11 @@ static void write_foot(void)
     printf("<text x=\"%d\" y=\"%d\" fill=\"" INK "\">every coordinate, length, cut and shift is exactly %d times as "
            "large.</text>\n",
            MARGIN, y + LINE, FACTOR);
+    printf("<text x=\"%d\" y=\"%d\" fill=\"" INK "\">At either size the panel sets aside just what the lines fill: %zu "
+           "bytes for a frame with a square mouth, %zu for one with a round mouth, %zu for a ring, %zu for a "
+           "coin.</text>\n",
+           MARGIN, y + 2 * LINE, bytes_of(&panel->frames[SQUARE]), bytes_of(&panel->frames[ROUND]),
+           bytes_of(&panel->ring), bytes_of(&panel->coin));
 }
 
 static void write_page(const Panel *small, const Panel *large)
@@ -482,7 +495,7 @@ static void write_page(const Panel *small, const Panel *large)
     write_title();
     write_panel(small, TITLE_HEIGHT);
     write_panel(large, TITLE_HEIGHT + PANEL_HEIGHT(1));
-    write_foot();
+    write_foot(small);
     printf("</svg>\n");
 }
 

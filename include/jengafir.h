@@ -61,7 +61,8 @@ enum jengafir_kind {
 /* Of jengafir_draw_path, jengafir_draw_item and jengafir_merge: no pointer is null, and what is lent for writing
    overlaps nothing else that is lent. On acceptance the commands stand at the start of both buffers, and the counts
    say how many codes and numbers they are; places past the counts keep their content. On a refusal both counts are 0,
-   and both buffers keep their content. */
+   and both buffers keep their content. How large the buffers must be is told by jengafir_tray_need and its
+   neighbours, below. */
 
 /* Draws the path of `count` vertices, 1 to 1,024, open where `closed` is 0 and closed where it is 1.
    A vertex is six numbers: x, y, the tangent that comes in, x and y, and the tangent that goes out, x and y. Tangents
@@ -86,14 +87,6 @@ uint32_t jengafir_draw_item(const uint32_t *row, size_t row_len, const float *it
                             uint8_t *codes, size_t codes_len, float *numbers, size_t numbers_len,
                             size_t *codes_written, size_t *numbers_written);
 
-/* Tells how much room to set aside for a drawing of `count` vertices, 1 to 1,024: count + 2 codes and 6 * count + 2
-   numbers. jengafir_draw_path and jengafir_draw_item never write more for so many vertices, open or closed. A
-   rectangle has at most 10 codes and 34 numbers, for which the room of eight vertices is enough, and an ellipse has 6
-   codes and 26 numbers, the room of four. jengafir_merge needs at most the room of each of its sources, added up.
-   No pointer is null, and the two places do not overlap. Refuses no vertices with 1, and more than 1,024 with 2.
-   On a refusal both are 0. */
-uint32_t jengafir_tray_estimate(size_t count, size_t *codes_needed, size_t *numbers_needed);
-
 /* Joins the sources of a merge: the commands of each, one source after the other.
    A row is six entries: kind, hidden (0 or 1), depth, mark (for a path 0 if open and 1 if closed, for a merge its mode
    from 0 to 255, else 0), place and count as for jengafir_draw_item. The first row is at depth 0. A row is at most one
@@ -109,6 +102,35 @@ uint32_t jengafir_tray_estimate(size_t count, size_t *codes_needed, size_t *numb
 uint32_t jengafir_merge(const uint32_t *rows, size_t rows_len, size_t row_count, const float *items, size_t items_len,
                         uint8_t *codes, size_t codes_len, float *numbers, size_t numbers_len,
                         size_t *codes_written, size_t *numbers_written);
+
+/* Of the three calls that tell a need: each tells exactly how many codes and numbers the drawing call that it is named
+   beside writes for the same input. So buffers of just these sizes are large enough, and with a place less in either
+   that call gives 11. It reads what that call reads and is refused as that call is, but for 11. No pointer is null, and
+   the two places do not overlap. On a refusal both are 0. */
+
+/* What jengafir_draw_path writes. Refuses, by the first of these that holds: 1, 2, 4 for `closed`, 12, 3. */
+uint32_t jengafir_tray_need(uint32_t closed, const float *vertices, size_t vertices_len, size_t count,
+                            size_t *codes_needed, size_t *numbers_needed);
+
+/* What jengafir_draw_item writes. Refuses a row list of fewer than six entries with 12, and then by the first of these
+   that holds: 4, 5, 1, 2, 12, 3. */
+uint32_t jengafir_item_need(const uint32_t *row, size_t row_len, const float *items, size_t items_len,
+                            size_t *codes_needed, size_t *numbers_needed);
+
+/* What jengafir_merge writes. Refuses as jengafir_merge does, but for 11. */
+uint32_t jengafir_merge_need(const uint32_t *rows, size_t rows_len, size_t row_count, const float *items,
+                             size_t items_len, size_t *codes_needed, size_t *numbers_needed);
+
+/* Sizes that are always enough, for arrays that are fixed when a program is built: for a path of n vertices, open or
+   closed, for a rectangle, and for an ellipse. No drawing writes more; a closed path of n cubics, a rectangle with round
+   corners and every ellipse write just as much, but a single vertex less. For a merge the sizes of its sources added up
+   are enough. */
+#define JENGAFIR_PATH_CODES(n) ((n) + 2)
+#define JENGAFIR_PATH_NUMBERS(n) (6 * (n) + 2)
+#define JENGAFIR_RECTANGLE_CODES 10
+#define JENGAFIR_RECTANGLE_NUMBERS 34
+#define JENGAFIR_ELLIPSE_CODES 6
+#define JENGAFIR_ELLIPSE_NUMBERS 26
 
 /* Of every call that reads a command list: the list is its codes and the numbers of all its commands, in order. No
    pointer is null, and a place that is lent for writing overlaps nothing else that is lent.

@@ -1,5 +1,4 @@
-/* Calls the drawing functions of the C interface on known shapes, and compares all that each call leaves behind. Draws
-   into just the room that is told for so many vertices. */
+/* Calls the drawing functions of the C interface on known shapes, and compares all that each call leaves behind. */
 #include "jengafir.h"
 
 #include <math.h>
@@ -105,22 +104,6 @@ static void item_drawn(const char *call, const uint32_t *row, const float *items
     refused(call, draw_item(row, 6, items, length, n - 1, m), JENGAFIR_BUFFER_TOO_SMALL);
     refused(call, draw_item(row, 6, items, length, n, m - 1), JENGAFIR_BUFFER_TOO_SMALL);
     refused(call, draw_item(row, 6, items, length, 0, 0), JENGAFIR_BUFFER_TOO_SMALL);
-}
-
-/* What the counts hold before an estimate, which no estimate here says. */
-#define OLD_COUNT 99
-
-/* Holds the room that is told for so many vertices against n codes and m numbers. */
-static void expect_estimate(size_t count, uint32_t refusal, size_t n, size_t m)
-{
-    size_t codes_needed = OLD_COUNT, numbers_needed = OLD_COUNT;
-    uint32_t got = jengafir_tray_estimate(count, &codes_needed, &numbers_needed);
-    compared++;
-    if (got != refusal || codes_needed != n || numbers_needed != m) {
-        printf("estimate of %zu: %u with %zu codes and %zu numbers; not %u with %zu and %zu\n", count, (unsigned)got,
-               codes_needed, numbers_needed, (unsigned)refusal, n, m);
-        wrong++;
-    }
 }
 
 static const float triangle[] = {0, 0, 0, 0, 0, 0, 3, 0, 0, 0, 0, 0, 3, 4, 0, 0, 0, 0};
@@ -373,18 +356,6 @@ static void test_row_refusals(void)
     refused("a row of no entries", draw_item(unlisted, 0, items, ITEMS, 40, 40), JENGAFIR_OUT_OF_BOUNDS);
 }
 
-static void test_estimates(void)
-{
-    expect_estimate(0, JENGAFIR_EMPTY, 0, 0);
-    expect_estimate(1, JENGAFIR_ACCEPTED, 3, 8);
-    expect_estimate(2, JENGAFIR_ACCEPTED, 4, 14);
-    expect_estimate(1024, JENGAFIR_ACCEPTED, 1026, 6146);
-    expect_estimate(1025, JENGAFIR_TOO_MANY, 0, 0);
-    /* Its low half is 1. */
-    expect_estimate(SIZE_MAX / 2 + 2, JENGAFIR_TOO_MANY, 0, 0);
-    expect_estimate(SIZE_MAX, JENGAFIR_TOO_MANY, 0, 0);
-}
-
 #define MOST_VERTICES 1024
 
 /* Vertices on a line, each with a tangent that comes in and one that goes out: every segment is a cubic. */
@@ -417,32 +388,17 @@ static void make_curly_drawing(uint32_t closed, size_t count, size_t *n, size_t 
     *m = 2 + 6 * segments;
 }
 
-/* Draws the first curly vertices into buffers of just the room that is told. */
-static void drawn_into_estimate(uint32_t closed, size_t count, const uint8_t *cs, size_t n, const float *xs, size_t m)
-{
-    size_t codes_needed = 0, numbers_needed = 0;
-    uint32_t refusal = jengafir_tray_estimate(count, &codes_needed, &numbers_needed);
-    if (refusal == JENGAFIR_ACCEPTED)
-        refusal = draw_path(closed, curly, 6 * count, count, codes_needed, numbers_needed);
-    expect("curly path in the room that is told", refusal, JENGAFIR_ACCEPTED, cs, n, xs, m);
-}
-
-/* A closed list of two vertices or more needs all of the room. */
-static void test_estimated_room(void)
+/* A closed list of cubics has the most codes and numbers that its vertices can have. */
+static void test_curly_paths(void)
 {
     static const size_t counts[] = {2, 3, MOST_VERTICES};
-    static const float point_numbers[4];
     make_curly_vertices();
-    for (uint32_t closed = 0; closed <= 1; closed++) {
-        drawn_into_estimate(closed, 1, line_codes, 2, point_numbers, 4);
+    for (uint32_t closed = 0; closed <= 1; closed++)
         for (size_t i = 0; i < COUNT(counts); i++) {
             size_t n, m;
             make_curly_drawing(closed, counts[i], &n, &m);
-            drawn_into_estimate(closed, counts[i], curly_codes, n, curly_numbers, m);
-            if (closed)
-                expect_estimate(counts[i], JENGAFIR_ACCEPTED, n, m);
+            path_drawn("curly path", closed, curly, counts[i], curly_codes, n, curly_numbers, m);
         }
-    }
 }
 
 int main(void)
@@ -454,8 +410,7 @@ int main(void)
     test_rectangles();
     test_ellipses();
     test_row_refusals();
-    test_estimates();
-    test_estimated_room();
+    test_curly_paths();
     if (wrong != 0) {
         printf("%d of %d wrong\n", wrong, compared);
         return 1;

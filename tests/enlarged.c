@@ -103,6 +103,33 @@ static void merge(size_t row_count, const float *numbers, Drawing *drawing)
                                      drawing->numbers, MOST_NUMBERS, &drawing->code_count, &drawing->number_count);
 }
 
+/* Whether a need is that of a drawing: the result and both counts. */
+static int is_need(const Drawing *drawing, uint32_t result, size_t code_count, size_t number_count)
+{
+    return result == drawing->result && code_count == drawing->code_count && number_count == drawing->number_count;
+}
+
+static int is_path_need(uint32_t closed, const float *numbers, const Drawing *drawing)
+{
+    size_t n, m;
+    uint32_t result = jengafir_tray_need(closed, numbers, COUNT(vertices), COUNT(vertices) / 6, &n, &m);
+    return is_need(drawing, result, n, m);
+}
+
+static int is_item_need(const uint32_t *row, const float *numbers, const Drawing *drawing)
+{
+    size_t n, m;
+    uint32_t result = jengafir_item_need(row, 6, numbers, COUNT(items), &n, &m);
+    return is_need(drawing, result, n, m);
+}
+
+static int is_merge_need(size_t row_count, const float *numbers, const Drawing *drawing)
+{
+    size_t n, m;
+    uint32_t result = jengafir_merge_need(rows, COUNT(rows), row_count, numbers, COUNT(items), &n, &m);
+    return is_need(drawing, result, n, m);
+}
+
 /* The calls that read a command list: the length, each command's numbers, and the cut lengths of some trims. */
 static void measure(const Drawing *small, const Drawing *large, int factor)
 {
@@ -186,16 +213,22 @@ static void test_factor(int factor)
         draw_path(closed, vertices, &small);
         draw_path(closed, larger_vertices, &large);
         compare("jengafir_draw_path", &small, &large, factor);
+        expect(is_path_need(closed, vertices, &small) && is_path_need(closed, larger_vertices, &small),
+               "jengafir_tray_need", factor);
     }
     for (size_t row = 0; row < COUNT(rows) / 6; row++) {
         draw_item(rows + 6 * row, items, &small);
         draw_item(rows + 6 * row, larger_items, &large);
         compare("jengafir_draw_item", &small, &large, factor);
+        expect(is_item_need(rows + 6 * row, items, &small) && is_item_need(rows + 6 * row, larger_items, &small),
+               "jengafir_item_need", factor);
     }
     for (size_t row_count = 0; row_count <= COUNT(rows) / 6; row_count++) {
         merge(row_count, items, &small);
         merge(row_count, larger_items, &large);
         compare("jengafir_merge", &small, &large, factor);
+        expect(is_merge_need(row_count, items, &small) && is_merge_need(row_count, larger_items, &small),
+               "jengafir_merge_need", factor);
     }
     repeat(factor);
 }

@@ -1,5 +1,5 @@
 #!/usr/bin/env python3
-"""Makes the test vectors of drawing and of the room that is set aside for it.
+"""Makes the test vectors of drawing and of what it needs of its buffers.
 
 It writes crates/vectors_draw/stdin, one call a line, and crates/vectors_draw/stdout, what each call
 leaves behind. The expected values come from document 01's rules on exact numbers, and for ellipses
@@ -10,15 +10,16 @@ A line of stdin is a word and numbers of 8 hexadecimal digits each, one blank be
 
     path CLOSED COUNT LENGTH CODES NUMBERS X..
     item ENTRIES KIND HIDDEN DEPTH MARK PLACE COUNT LENGTH CODES NUMBERS X..
-    estimate COUNT
+    need-path CLOSED COUNT LENGTH X..
+    need-item ENTRIES KIND HIDDEN DEPTH MARK PLACE COUNT LENGTH X..
 
-CODES and NUMBERS are the lengths of the buffers. The patterns X, over and over, fill the LENGTH
-numbers that are lent. Of a row the first ENTRIES entries are lent.
+CODES and NUMBERS are the lengths of the buffers, which a need has not. The patterns X, over and
+over, fill the LENGTH numbers that are lent. Of a row the first ENTRIES entries are lent.
 
 In stdout a drawing's line of stdin is followed by three lines: 'written' with the counts of codes
 and numbers, or 'refused' with the refusal's number; and then all places of both buffers. Before a
-call each place of the codes is ee and each of the numbers is c29a8000, which is -77.25. An
-estimate's line is followed by one: 'room' with the counts, or 'refused'.
+call each place of the codes is ee and each of the numbers is c29a8000, which is -77.25. The line
+of a need is followed by one: 'needed' with the counts, or 'refused'. The needs follow the drawings.
 
     python3 tools/draw_vectors.py            write both files
     python3 tools/draw_vectors.py --check    compare both files; exit 1 where one differs
@@ -187,15 +188,6 @@ def item_outcome(row, numbers):
     return rect_path(numbers) if kind == RC else ellipse_path(numbers)
 
 
-def estimate_outcome(count):
-    """The codes and numbers to have room for, or the number of the refusal."""
-    if count == 0:
-        return 1
-    if count > MOST_VERTICES:
-        return 2
-    return count + 2, 6 * count + 2
-
-
 # Calls: the word and the numbers before the lengths, the lengths, the patterns given, and the outcome.
 
 class Call:
@@ -224,6 +216,14 @@ class Call:
         return line, "%s%s\ncodes%s\nnumbers%s\n" % (
             line, told, "".join(" %02x" % code for code in places[0]), "".join(" %08x" % x for x in places[1]))
 
+    def need_texts(self):
+        """The line of stdin that asks what the call needs, and its lines of stdout."""
+        assert self.length <= LARGEST_LIST
+        line = "need-" + " ".join(self.head + ["%08x" % n for n in [self.length] + self.patterns]) + "\n"
+        is_refused = isinstance(self.outcome, int)
+        told = "refused %d" % self.outcome if is_refused else "needed %d %d" % (len(self.codes), len(self.numbers))
+        return line, "%s%s\n" % (line, told)
+
 
 def lent(patterns, length):
     return [decode(patterns[i % len(patterns)]) if patterns else decode(ZERO) for i in range(length)]
@@ -238,14 +238,6 @@ def item(row, patterns, length=None, entries=6):
     length = len(patterns) if length is None else length
     outcome = item_outcome(row[:entries], lent(patterns, length))
     return Call("item", [entries] + row, length, patterns, outcome)
-
-
-def estimate_texts(count):
-    """A line of stdin and its lines of stdout."""
-    outcome = estimate_outcome(count)
-    told = "refused %d" % outcome if isinstance(outcome, int) else "room %d %d" % outcome
-    line = "estimate %08x\n" % count
-    return line, "%s%s\n" % (line, told)
 
 
 def vertices(*points):
@@ -400,7 +392,18 @@ def row_refusals():
 
 
 # Numbers of vertices at the limits and beside them, and large ones whose low bits are those of a small one.
-ESTIMATED = [0, 1, 2, 3, 4, 8, 255, 256, 257, 1023, 1024, 1025, 1026, 2048, 2**16, 2**16 + 1, 2**31 + 3, 2**32 - 1]
+COUNTS = [2, 3, 255, 256, 257, 1023, 1024, 1025, 1026, 2**16, 2**16 + 1, 2**31 + 3, 2**32 - 1]
+
+
+def long_lists():
+    """Lists of cubics alone, which need the most, and the longest list with lines."""
+    most, curve, line = MOST_VERTICES, exactly(1, 2, -3, 4, 5, 6), exactly(1, 2, 0, 0, 0, 0)
+    for count in COUNTS:
+        yield path(1, count, curve, min(6 * count, LARGEST_LIST))
+    yield path(0, most, curve, 6 * most)
+    yield item([SH, 0, 0, 1, 6, most], curve, LARGEST_LIST)
+    yield item([SH, 0, 0, 1, 7, most], curve, LARGEST_LIST)
+    yield from (path(closed, most, patterns, 6 * most) for closed in (0, 1) for patterns in (line, line + curve + line))
 
 
 def vectors():
@@ -424,8 +427,9 @@ def vectors():
 
 def texts():
     """What the two files hold."""
-    pairs = dict.fromkeys(call.texts(*more) for call, *more in vectors())
-    pairs.update(dict.fromkeys(estimate_texts(count) for count in ESTIMATED))
+    drawings = list(vectors())
+    pairs = dict.fromkeys(call.texts(*more) for call, *more in drawings)
+    pairs.update(dict.fromkeys(call.need_texts() for call in [call for call, *_ in drawings] + list(long_lists())))
     return "".join(line for line, _ in pairs), "".join(answer for _, answer in pairs)
 
 

@@ -1,5 +1,5 @@
 #!/usr/bin/env python3
-"""Makes the test vectors of merges.
+"""Makes the test vectors of merges and of what they need of their buffers.
 
 It writes crates/vectors_merge/stdin, one call a line, and crates/vectors_merge/stdout, what each call
 leaves behind. The expected values come from document 01's rules; the sources are drawn by the rules
@@ -9,16 +9,18 @@ answers in oracle/samples follows them.
 A line of stdin is a word and numbers of 8 hexadecimal digits each, one blank before each number:
 
     merge COUNT ENTRIES AT VALUE GIVEN ROW.. LENGTH CODES NUMBERS X..
+    need-merge COUNT ENTRIES AT VALUE GIVEN ROW.. LENGTH X..
 
 COUNT is the row number that the call is told, and ENTRIES is how many entries of rows are lent. The
 line has GIVEN rows, and the last of them stands for all that follow. The digits of a row are
 kind, hidden, depth, mark (two), place (two) and count. Then the entry at AT, where there is one, is
-made VALUE. CODES and NUMBERS are the lengths of the buffers. The patterns X, over and over, fill the
-LENGTH numbers that are lent.
+made VALUE. CODES and NUMBERS are the lengths of the buffers, which a need has not. The patterns X,
+over and over, fill the LENGTH numbers that are lent.
 
-In stdout each line of stdin is followed by three lines: 'written' with the counts of codes and
+In stdout a merge's line of stdin is followed by three lines: 'written' with the counts of codes and
 numbers, or 'refused' with the refusal's number; and then all places of both buffers. Before a
-call each place of the codes is ee and each of the numbers is c29a8000, which is -77.25.
+call each place of the codes is ee and each of the numbers is c29a8000, which is -77.25. The line
+of a need is followed by one: 'needed' with the counts, or 'refused'. The needs follow the merges.
 
     python3 tools/merge_vectors.py            write both files
     python3 tools/merge_vectors.py --check    compare both files; exit 1 where one differs
@@ -370,7 +372,9 @@ def vectors():
 
 def texts():
     """What the two files hold."""
-    pairs = dict.fromkeys(call.texts(*more) for call, *more in vectors())
+    merges = list(vectors())
+    pairs = dict.fromkeys(call.texts(*more) for call, *more in merges)
+    pairs.update(dict.fromkeys(call.need_texts() for call, *_ in merges))
     return "".join(line for line, _ in pairs), "".join(answer for _, answer in pairs)
 
 

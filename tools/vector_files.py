@@ -6,7 +6,7 @@ from pathlib import Path
 ROOT = Path(__file__).resolve().parent.parent
 
 # A vectors program reads its input into one buffer of this many bytes.
-LARGEST_INPUT = 131072
+LARGEST_INPUT = 262144
 
 
 def keep_files(name, count, files, usage):

@@ -1,18 +1,22 @@
 //! Times drawing vertex lists, through the C interface, against the Rust's own function over its stand-ins.
 
 use crate::interface::jengafir_draw_path;
-use crate::timing::{compare, numbers_written};
+use crate::timing::{compare, numbers_counted, Unit};
 use crate::unit_numbers;
 use source::{BezierPath, BezierVertex};
 use std::hint::black_box;
 
-const VERTICES: usize = 1_024;
+pub const VERTICES: usize = 1_024;
+pub const A_VERTEX: Unit = ("vertex", VERTICES);
 /// So many lists that no processor remembers which segments are lines.
 const LISTS: usize = 64;
 
+/// The kinds of lists, and in how many of 16 cases a segment is a line.
+pub const KINDS: [(&str, u32); 3] = [("cubics", 0), ("half lines", 8), ("lines", 16)];
+
 /// A closed list, in the form of either side.
-struct Drawing {
-    numbers: Vec<f32>,
+pub struct Drawing {
+    pub numbers: Vec<f32>,
     path: BezierPath,
 }
 
@@ -35,9 +39,14 @@ fn drawing(unit: &mut impl FnMut() -> f32, lines_of_16: u32) -> Drawing {
     Drawing { numbers, path }
 }
 
+pub fn drawings(lines_of_16: u32) -> Vec<Drawing> {
+    let mut unit = unit_numbers();
+    (0..LISTS).map(|_| drawing(&mut unit, lines_of_16)).collect()
+}
+
 /// Draws with ours, and gives how many numbers were written.
 fn draw(drawing: &Drawing, codes: &mut [u8], numbers: &mut [f32]) -> u32 {
-    numbers_written(|codes_written, numbers_written| unsafe {
+    numbers_counted(|codes_written, numbers_written| unsafe {
         jengafir_draw_path(
             1,
             drawing.numbers.as_ptr(),
@@ -59,12 +68,10 @@ fn theirs(drawing: &Drawing) -> u32 {
 }
 
 pub fn run() {
-    for (call, lines_of_16) in [("draw_path, cubics", 0), ("draw_path, half lines", 8)] {
-        let mut unit = unit_numbers();
-        let drawings: Vec<Drawing> = (0..LISTS).map(|_| drawing(&mut unit, lines_of_16)).collect();
+    for (name, lines_of_16) in KINDS {
         let mut codes = [0; VERTICES + 2];
         let mut numbers = [0.0; 6 * VERTICES + 2];
         let ours = |d: &Drawing| draw(d, &mut codes, black_box(&mut numbers));
-        compare(call, ("vertex", VERTICES), &drawings, ours, theirs);
+        compare(&format!("draw_path, {name}"), A_VERTEX, &drawings(lines_of_16), ours, theirs);
     }
 }

@@ -2,13 +2,14 @@
 //! ellipses, whose walk the Rust has in no file.
 
 use crate::interface::jengafir_draw_item;
-use crate::timing::{alone, compare, numbers_written};
+use crate::timing::{alone, compare, numbers_counted, Unit};
 use crate::unit_numbers;
 use source::ShapeItem;
 use std::hint::black_box;
 
 pub const RC: u32 = 2;
 pub const EL: u32 = 3;
+pub const A_RECTANGLE: Unit = ("rectangle", 1);
 const RECTANGLES: usize = 1_024;
 /// No rectangle or ellipse has more codes or numbers.
 const MOST_CODES: usize = 10;
@@ -34,10 +35,15 @@ pub fn rectangle(unit: &mut impl FnMut() -> f32, roundness: f32) -> Rectangle {
     Rectangle { numbers: [x, y, width, height, roundness], item }
 }
 
+/// The row of a rectangle, or of the ellipse in it, whose numbers stand first.
+pub fn row(kind: u32) -> [u32; 6] {
+    [kind, 0, 0, 0, 0, 0]
+}
+
 /// Draws a rectangle, or the ellipse in it, with ours, and gives how many numbers were written.
 fn draw(kind: u32, rectangle: &Rectangle, codes: &mut [u8], numbers: &mut [f32]) -> u32 {
-    let row = [kind, 0, 0, 0, 0, 0];
-    numbers_written(|codes_written, numbers_written| unsafe {
+    let row = row(kind);
+    numbers_counted(|codes_written, numbers_written| unsafe {
         jengafir_draw_item(
             row.as_ptr(),
             row.len(),
@@ -58,7 +64,7 @@ fn theirs(rectangle: &Rectangle) -> u32 {
     black_box(source::rect_path(&rectangle.item)).unwrap().numbers.len() as u32
 }
 
-fn rectangles(roundness: f32) -> Vec<Rectangle> {
+pub fn rectangles(roundness: f32) -> Vec<Rectangle> {
     let mut unit = unit_numbers();
     (0..RECTANGLES).map(|_| rectangle(&mut unit, roundness)).collect()
 }
@@ -68,7 +74,7 @@ pub fn run() {
     let mut numbers = [0.0; MOST_NUMBERS];
     for (call, roundness) in [("draw_item, plain", 0.0), ("draw_item, round", 0.5)] {
         let ours = |r: &Rectangle| draw(RC, r, &mut codes, black_box(&mut numbers));
-        compare(call, ("rectangle", 1), &rectangles(roundness), ours, theirs);
+        compare(call, A_RECTANGLE, &rectangles(roundness), ours, theirs);
     }
     let ours = |r: &Rectangle| draw(EL, r, &mut codes, black_box(&mut numbers));
     alone("draw_item, ellipse", ("ellipse", 1), &rectangles(0.0), ours);

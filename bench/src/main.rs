@@ -2,7 +2,6 @@
 
 #[cfg(drawing)]
 mod draw;
-mod estimate;
 mod float;
 #[allow(dead_code)]
 #[path = "../../oracle/src/interface.rs"]
@@ -13,6 +12,8 @@ mod item;
 mod length;
 #[cfg(drawing)]
 mod merge;
+#[cfg(drawing)]
+mod need;
 #[cfg(drawing)]
 mod repeater;
 mod timing;
@@ -32,12 +33,14 @@ fn unit_numbers() -> impl FnMut() -> f32 {
 
 fn main() {
     float::run();
-    estimate::run();
     #[cfg(drawing)]
     {
         draw::run();
+        need::run_paths();
         item::run();
+        need::run_items();
         merge::run();
+        need::run_merges();
         length::run();
         trim::run();
         repeater::run();

@@ -2,7 +2,7 @@
 
 use crate::interface::jengafir_merge;
 use crate::item::{rectangle, EL, RC};
-use crate::timing::{alone, compare, numbers_written};
+use crate::timing::{alone, compare, numbers_counted, Unit};
 use crate::unit_numbers;
 use source::{BezierPath, BezierVertex, ShapeItem};
 use std::hint::black_box;
@@ -10,6 +10,7 @@ use std::hint::black_box;
 const SH: u32 = 1;
 const MM: u32 = 13;
 const VERTICES: usize = 100;
+pub const A_MERGE: Unit = ("merge", 1);
 /// So many merges that no processor remembers which segments are lines.
 const MERGES: usize = 64;
 /// No merge here has more codes or numbers.
@@ -17,9 +18,9 @@ const MOST_CODES: usize = 1_100;
 const MOST_NUMBERS: usize = 6_200;
 
 /// A merge, in the form of either side.
-struct Merge {
-    rows: Vec<u32>,
-    numbers: Vec<f32>,
+pub struct Merge {
+    pub rows: Vec<u32>,
+    pub numbers: Vec<f32>,
     items: Vec<ShapeItem>,
 }
 
@@ -38,18 +39,21 @@ impl Merge {
     }
 }
 
-/// Rectangles with this part of half their smaller side as roundness, or the ellipses in them.
-fn rectangles(unit: &mut impl FnMut() -> f32, kind: u32, roundness: f32) -> Merge {
-    Merge::new(kind, 100, |numbers| {
-        let rectangle = rectangle(unit, roundness);
+/// Merges of rectangles with this part of half their smaller side as roundness, or of the ellipses in them.
+pub fn rectangles(kind: u32, roundness: f32) -> Vec<Merge> {
+    let mut unit = unit_numbers();
+    let source = |numbers: &mut Vec<f32>| {
+        let rectangle = rectangle(&mut unit, roundness);
         numbers.extend(rectangle.numbers);
         rectangle.item
-    })
+    };
+    merges(kind, 100, source)
 }
 
-/// Closed paths of vertices from -4096 to 4096 with tangents up to 512.
-fn paths(unit: &mut impl FnMut() -> f32) -> Merge {
-    Merge::new(SH, 10, |numbers| {
+/// Merges of closed paths of vertices from -4096 to 4096 with tangents up to 512.
+pub fn paths() -> Vec<Merge> {
+    let mut unit = unit_numbers();
+    let source = |numbers: &mut Vec<f32>| {
         let start = numbers.len();
         numbers.extend((0..6 * VERTICES).map(|i| unit() * if i % 6 < 2 { 4096.0 } else { 512.0 }));
         let vertices = numbers[start..].chunks(6).map(|v| BezierVertex {
@@ -59,12 +63,17 @@ fn paths(unit: &mut impl FnMut() -> f32) -> Merge {
         });
         let path = BezierPath { closed: true, vertices: vertices.collect() };
         ShapeItem { item_type: "sh".to_string(), path: Some(path), ..ShapeItem::default() }
-    })
+    };
+    merges(SH, 10, source)
+}
+
+fn merges(kind: u32, count: usize, mut source: impl FnMut(&mut Vec<f32>) -> ShapeItem) -> Vec<Merge> {
+    (0..MERGES).map(|_| Merge::new(kind, count, &mut source)).collect()
 }
 
 /// Merges with ours, and gives how many numbers were written.
 fn join(merge: &Merge, codes: &mut [u8], numbers: &mut [f32]) -> u32 {
-    numbers_written(|codes_written, numbers_written| unsafe {
+    numbers_counted(|codes_written, numbers_written| unsafe {
         jengafir_merge(
             merge.rows.as_ptr(),
             merge.rows.len(),
@@ -87,19 +96,17 @@ fn theirs(merge: &Merge) -> u32 {
 }
 
 pub fn run() {
-    let mut unit = unit_numbers();
-    let merges: [(&str, Vec<Merge>); 3] = [
-        ("merge, 100 plain", (0..MERGES).map(|_| rectangles(&mut unit, RC, 0.0)).collect()),
-        ("merge, 100 round", (0..MERGES).map(|_| rectangles(&mut unit, RC, 0.5)).collect()),
-        ("merge, 10 paths", (0..MERGES).map(|_| paths(&mut unit)).collect()),
+    let merges = [
+        ("merge, 100 plain", rectangles(RC, 0.0)),
+        ("merge, 100 round", rectangles(RC, 0.5)),
+        ("merge, 10 paths", paths()),
     ];
     let mut codes = [0; MOST_CODES];
     let mut numbers = [0.0; MOST_NUMBERS];
     for (call, merges) in merges {
         let ours = |m: &Merge| join(m, &mut codes, black_box(&mut numbers));
-        compare(call, ("merge", 1), &merges, ours, theirs);
+        compare(call, A_MERGE, &merges, ours, theirs);
     }
-    let merges: Vec<Merge> = (0..MERGES).map(|_| rectangles(&mut unit, EL, 0.0)).collect();
     let ours = |m: &Merge| join(m, &mut codes, black_box(&mut numbers));
-    alone("merge, 100 ellipses", ("merge", 1), &merges, ours);
+    alone("merge, 100 ellipses", A_MERGE, &rectangles(EL, 0.0), ours);
 }

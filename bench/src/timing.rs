@@ -49,15 +49,17 @@ pub fn compare<I>(
 }
 
 /// Times ours where Rust has no such function.
+#[cfg(drawing)]
 pub fn alone<I>(call: &str, unit: Unit, inputs: &[I], mut ours: impl FnMut(&I) -> u32) {
     let best = (0..ROUNDS).map(|_| time(inputs, &mut ours).0).fold(f64::INFINITY, f64::min);
     line(call, unit, inputs, best, None);
 }
 
-/// Makes a call that is lent the places of its two counts, and gives how many numbers it wrote.
-pub fn numbers_written(call: impl FnOnce(*mut usize, *mut usize) -> u32) -> u32 {
-    let [mut codes_written, mut numbers_written] = [0; 2];
-    let refusal = call(&mut codes_written, &mut numbers_written);
+/// Makes a call that is lent the places of its two counts, and gives how many numbers it wrote or needs.
+#[cfg(drawing)]
+pub fn numbers_counted(call: impl FnOnce(*mut usize, *mut usize) -> u32) -> u32 {
+    let [mut codes, mut numbers] = [0; 2];
+    let refusal = call(&mut codes, &mut numbers);
     assert_eq!(refusal, 0);
-    numbers_written as u32
+    numbers as u32
 }

@@ -13,7 +13,8 @@ const LIMIT: f32 = 1_048_576.0;
 pub fn compare(random: &mut Random, count: usize, report: &mut Report) {
     let mut paths: Outcomes = [0; 13];
     let mut items: Outcomes = [0; 13];
-    compare_edges(random, report, &mut paths, &mut items);
+    for_each_edge_path(|path| judge(random, report, &mut paths, path));
+    for_each_edge_rectangle(|item| judge(random, report, &mut items, item));
     for _ in 0..count {
         let path = any_path(random);
         judge(random, report, &mut paths, &path);
@@ -44,18 +45,27 @@ fn compare_ellipses(random: &mut Random, count: usize, report: &mut Report) {
     report.outcomes.push(("draw_item of ellipses", items));
 }
 
-/// Paths of two vertices, and rectangles, whose numbers are edges.
-fn compare_edges(random: &mut Random, report: &mut Report, paths: &mut Outcomes, items: &mut Outcomes) {
+/// Paths of two vertices whose numbers are edges.
+pub fn for_each_edge_path(mut f: impl FnMut(&Input)) {
     let edges = edges();
     for &x in &edges {
         for &tangent in &edges {
             let vertices = vec![x, 0.0, 0.0, 0.0, tangent, 0.0, 1.0, x, 0.0, 0.0, 0.0, 0.0];
-            judge(random, report, paths, &Input::Path { closed: 0, vertices, count: 2 });
+            f(&Input::Path { closed: 0, vertices, count: 2 });
             let vertices = vec![1.0, 2.0, 0.0, 0.0, 0.0, 0.0, 3.0, x, 0.0, tangent, 0.0, 0.0];
-            judge(random, report, paths, &Input::Path { closed: 1, vertices, count: 2 });
-            for &y in &edges {
-                for numbers in [vec![1.0, -3.0, x, tangent, y], vec![x, y, tangent, 3.0, 0.5]] {
-                    judge(random, report, items, &Input::Item { row: vec![RC, 0, 0, 0, 0, 0], numbers });
+            f(&Input::Path { closed: 1, vertices, count: 2 });
+        }
+    }
+}
+
+/// Rectangles whose numbers are edges.
+pub fn for_each_edge_rectangle(mut f: impl FnMut(&Input)) {
+    let edges = edges();
+    for &x in &edges {
+        for &y in &edges {
+            for &z in &edges {
+                for numbers in [vec![1.0, -3.0, x, y, z], vec![x, z, y, 3.0, 0.5]] {
+                    f(&Input::Item { row: vec![RC, 0, 0, 0, 0, 0], numbers });
                 }
             }
         }
@@ -250,10 +260,14 @@ fn judge(random: &mut Random, report: &mut Report, outcomes: &mut Outcomes, inpu
     let answer = answer(input);
     let lengths = lengths(random, &answer);
     let theirs = Outcome::theirs(&answer, lengths);
-    let ours = called(input, lengths);
     outcomes[theirs.refusal as usize] += 1;
-    report.count(ours == theirs, || {
-        format!("{}, buffers of {lengths:?}: {}", shown_input(input), shown_difference(&ours, &theirs))
+    expect(report, input, lengths, &theirs);
+}
+
+pub fn expect(report: &mut Report, input: &Input, lengths: [usize; 2], theirs: &Outcome) {
+    let ours = called(input, lengths);
+    report.count(ours == *theirs, || {
+        format!("{}, buffers of {lengths:?}: {}", shown_input(input), shown_difference(&ours, theirs))
     });
 }
 
@@ -276,7 +290,7 @@ pub fn lengths(random: &mut Random, answer: &Result<Path, u32>) -> [usize; 2] {
     }
 }
 
-fn shown_input(input: &Input) -> String {
+pub fn shown_input(input: &Input) -> String {
     match input {
         Input::Path { closed, vertices, count } => {
             format!("draw_path closed {closed}, {count} vertices in {}", shown_list(vertices))

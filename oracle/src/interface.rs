@@ -25,7 +25,6 @@ extern "C" {
         codes_written: *mut usize,
         numbers_written: *mut usize,
     ) -> u32;
-    pub fn jengafir_tray_estimate(count: usize, codes_needed: *mut usize, numbers_needed: *mut usize) -> u32;
     pub fn jengafir_merge(
         rows: *const u32,
         rows_len: usize,
@@ -38,6 +37,31 @@ extern "C" {
         numbers_len: usize,
         codes_written: *mut usize,
         numbers_written: *mut usize,
+    ) -> u32;
+    pub fn jengafir_tray_need(
+        closed: u32,
+        vertices: *const f32,
+        vertices_len: usize,
+        count: usize,
+        codes_needed: *mut usize,
+        numbers_needed: *mut usize,
+    ) -> u32;
+    pub fn jengafir_item_need(
+        row: *const u32,
+        row_len: usize,
+        items: *const f32,
+        items_len: usize,
+        codes_needed: *mut usize,
+        numbers_needed: *mut usize,
+    ) -> u32;
+    pub fn jengafir_merge_need(
+        rows: *const u32,
+        rows_len: usize,
+        row_count: usize,
+        items: *const f32,
+        items_len: usize,
+        codes_needed: *mut usize,
+        numbers_needed: *mut usize,
     ) -> u32;
     pub fn jengafir_length(
         codes: *const u8,

@@ -4,8 +4,6 @@
 mod curves;
 #[cfg(drawing)]
 mod draw;
-#[cfg(drawing)]
-mod estimate;
 mod float;
 #[allow(dead_code)]
 mod interface;
@@ -15,6 +13,8 @@ mod length;
 mod lists;
 #[cfg(drawing)]
 mod merge;
+#[cfg(drawing)]
+mod need;
 #[cfg(drawing)]
 mod plate;
 mod random;
@@ -41,9 +41,9 @@ const PARTS: &[Part] = &[
     #[cfg(drawing)]
     draw::compare,
     #[cfg(drawing)]
-    estimate::compare,
-    #[cfg(drawing)]
     merge::compare,
+    #[cfg(drawing)]
+    need::compare,
     #[cfg(drawing)]
     length::compare,
     #[cfg(drawing)]

@@ -19,19 +19,24 @@ const LISTS_OF_A_STOCK: usize = 256;
 
 pub fn compare(random: &mut Random, count: usize, report: &mut Report) {
     let mut tally = Tally { lists: 0, joined: 0, outcomes: [0; 13] };
-    compare_short(random, report, &mut tally);
-    compare_faults(random, report, &mut tally);
-    compare_largest(random, report, &mut tally);
+    for_each_surrounded(|list| judge(random, report, &mut tally, list));
+    for_each_fault(|list| (0..8).for_each(|_| judge(random, report, &mut tally, list)));
+    for_each_largest(|list| (0..3).for_each(|_| judge(random, report, &mut tally, list)));
+    for_each_any(random, count, |random, list| judge(random, report, &mut tally, list));
+    println!("oracle: merge joins in {} of {} lists", tally.joined, tally.lists);
+    report.outcomes.push(("merge", tally.outcomes));
+}
+
+/// So many lists of every kind.
+pub fn for_each_any(random: &mut Random, count: usize, mut f: impl FnMut(&mut Random, &List)) {
     let mut stock = Stock::any(random);
     for i in 0..count {
         if i % LISTS_OF_A_STOCK == 0 {
             stock = Stock::any(random);
         }
         let list = any_list(random, &stock);
-        judge(random, report, &mut tally, &list);
+        f(random, &list);
     }
-    println!("oracle: merge joins in {} of {} lists", tally.joined, tally.lists);
-    report.outcomes.push(("merge", tally.outcomes));
 }
 
 struct Tally {
@@ -44,14 +49,14 @@ struct Tally {
 // What the call has to answer.
 
 /// What the rows settle and what the answer is.
-struct Settled {
+pub struct Settled {
     /// The rows that are joined; none where the rows are refused.
-    joined: Vec<usize>,
+    pub joined: Vec<usize>,
     /// The path, or the refusal that comes before it is known whether the path fits.
-    answer: Result<Path, u32>,
+    pub answer: Result<Path, u32>,
 }
 
-fn settle(list: &List) -> Settled {
+pub fn settle(list: &List) -> Settled {
     match joined_rows(list) {
         Err(refusal) => Settled { joined: Vec::new(), answer: Err(refusal) },
         Ok((rows, joined)) => {
@@ -148,7 +153,6 @@ fn called(list: &List, lengths: [usize; 2]) -> Outcome {
     })
 }
 
-/// Compares a list, and now and then the list with all altered that is not read.
 fn judge(random: &mut Random, report: &mut Report, tally: &mut Tally, list: &List) {
     let settled = settle(list);
     let lengths = lengths(random, &settled.answer);
@@ -156,26 +160,33 @@ fn judge(random: &mut Random, report: &mut Report, tally: &mut Tally, list: &Lis
     tally.lists += 1;
     tally.joined += u64::from(!settled.joined.is_empty());
     tally.outcomes[theirs.refusal as usize] += 1;
-    expect(report, list, lengths, &theirs);
+    for_each_alike(random, list, &settled.joined, |list| expect(report, list, lengths, &theirs));
+}
+
+/// The list, and now and then the list with all altered that is not read.
+pub fn for_each_alike(random: &mut Random, list: &List, joined: &[usize], mut f: impl FnMut(&List)) {
+    f(list);
     if random.bits(2) == 0 {
         let mut list = altered(random, list);
-        expect(report, &list, lengths, &theirs);
+        f(&list);
         if random.bits(3) == 0 {
-            spoil_unread(random, &mut list, &settled.joined);
-            expect(report, &list, lengths, &theirs);
+            spoil_unread(random, &mut list, joined);
+            f(&list);
         }
     }
 }
 
-fn expect(report: &mut Report, list: &List, lengths: [usize; 2], theirs: &Outcome) {
+pub fn expect(report: &mut Report, list: &List, lengths: [usize; 2], theirs: &Outcome) {
     let ours = called(list, lengths);
     report.count(ours == *theirs, || {
-        let rows: Vec<String> = list.rows.chunks(6).take(16).map(|row| format!("{row:?}")).collect();
-        let rest = if list.rows.len() > 6 * 16 { " .." } else { "" };
-        let items = shown_list(list.lent_items());
-        let shown = format!("merge of {} rows in {}{rest}, {items}", list.row_count, rows.join(" "));
-        format!("{shown}, buffers of {lengths:?}: {}", shown_difference(&ours, theirs))
+        format!("{}, buffers of {lengths:?}: {}", shown_merge(list), shown_difference(&ours, theirs))
     });
+}
+
+pub fn shown_merge(list: &List) -> String {
+    let rows: Vec<String> = list.rows.chunks(6).take(16).map(|row| format!("{row:?}")).collect();
+    let rest = if list.rows.len() > 6 * 16 { " .." } else { "" };
+    format!("merge of {} rows in {}{rest}, {}", list.row_count, rows.join(" "), shown_list(list.lent_items()))
 }
 
 /// Puts anything in the place of each number that is no joined source's.
@@ -208,7 +219,7 @@ fn every_row(depth: u32) -> Vec<Row> {
 }
 
 /// Every list of up to three rows: alone, after a merge, before the two sources of a merge, and in a group there.
-fn compare_short(random: &mut Random, report: &mut Report, tally: &mut Tally) {
+pub fn for_each_surrounded(mut f: impl FnMut(&List)) {
     let items: Rc<Vec<f32>> = Rc::new((0..80).map(|i| (i * i % 97) as f32 * 0.75 - 20.0).collect());
     let merge = [Row::new(RC, 0, 0, 0), Row::new(SH, 0, 0, 0), Row::new(MM, 0, 0, 1)];
     let group = [Row::new(GR, 0, 0, 0)];
@@ -219,7 +230,7 @@ fn compare_short(random: &mut Random, report: &mut Report, tally: &mut Tally) {
             let mut rows = [before, rows, after].concat();
             rows.iter_mut().enumerate().for_each(|(i, row)| locate(i as u32, row));
             if !rows.is_empty() {
-                judge(random, report, tally, &List::new(&rows, &items));
+                f(&List::new(&rows, &items));
             }
         });
     }
@@ -275,8 +286,8 @@ const LIST_FAULTS: [fn(&mut List); 12] = [
     |list| list.rows[6 * 2 + 3] = 2,
 ];
 
-/// Every two faults of sources together with every two of the rows, in ample buffers and in short ones.
-fn compare_faults(random: &mut Random, report: &mut Report, tally: &mut Tally) {
+/// Every two faults of sources together with every two of the rows.
+pub fn for_each_fault(mut f: impl FnMut(&List)) {
     // The number at 8 is the first that is not finite; the sources have theirs before it.
     let items: Rc<Vec<f32>> = Rc::new((0..40).map(|i| if i < 8 || i > 20 { i as f32 } else { f32::NAN }).collect());
     let sound = [Row { count: 1, ..Row::new(SH, 0, 0, 1) }, Row { place: 21, count: 3, ..Row::new(SH, 0, 0, 0) }];
@@ -290,9 +301,7 @@ fn compare_faults(random: &mut Random, report: &mut Report, tally: &mut Tally) {
                     let mut list = List::new(&rows, &items);
                     one(&mut list);
                     other(&mut list);
-                    for _ in 0..8 {
-                        judge(random, report, tally, &list);
-                    }
+                    f(&list);
                 }
             }
         }
@@ -300,17 +309,14 @@ fn compare_faults(random: &mut Random, report: &mut Report, tally: &mut Tally) {
 }
 
 /// The most sources of the most vertices, and one row more.
-fn compare_largest(random: &mut Random, report: &mut Report, tally: &mut Tally) {
+pub fn for_each_largest(mut f: impl FnMut(&List)) {
     let items: Rc<Vec<f32>> = Rc::new((0..6 * MOST_VERTICES).map(|i| (i * i % 8191) as f32).collect());
     let source = Row { count: MOST_VERTICES as u32, ..Row::new(SH, 0, 0, 1) };
     let mut rows = vec![source; MOST_ROWS];
     rows[MOST_ROWS - 1] = Row::new(MM, 0, 0, 1);
-    let list = List::new(&rows, &items);
-    for _ in 0..3 {
-        judge(random, report, tally, &list);
-    }
+    f(&List::new(&rows, &items));
     rows.push(Row::new(7, 0, 0, 0));
-    judge(random, report, tally, &List::new(&rows, &items));
+    f(&List::new(&rows, &items));
 }
 
 // The sample.

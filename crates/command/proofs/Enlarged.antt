@@ -20,7 +20,8 @@ use Rattle.command.specs.declared.PathCommand.the-variants.{Move, Line, 
 use Rattle.command.specs.declared.Refusal.{Refusal}
 use Rattle.command.specs.Commands.{codeOf, coordinatesOf, codesOf, numbersOf, commandLimit}
 use Rattle.command.specs.Outcomes.{Outcome, refused, accepted, Check, checked, AllPass}
-use Rattle.command.specs.Enlarged.{enlarged, AllOn, CommandTwin, Twins, DrawingTwin}
+use Rattle.command.specs.Buffers.{roomOf, needOf}
+use Rattle.command.specs.Enlarged.{enlarged, AllOn, CommandTwin, Twins, enlargedDrawing, DrawingTwin}
 use Rattle.command.proofs.Outcomes.{checks-relate}
 use Rattle.command.proofs.Passes.{numbers-append}
 
@@ -56,6 +57,17 @@ pub enlarged-numbers : (k : ℕ) (cs : List PathCommand) → numbersOf (map (enl
 enlarged-numbers k [] = refl
 enlarged-numbers k (c ∷ cs) =
     ap₂ (λ (xs ys : List Float). xs ++ ys) (enlarged-coordinates k c) (enlarged-numbers k cs) ∙ sym (map-append (scale k) (coordinatesOf c) (numbersOf cs))
+
+-- ---- so enlarging changes no need
+pub enlarged-room : (k : ℕ) (cs : List PathCommand) → roomOf (map (enlarged k) cs) ≡ roomOf cs
+enlarged-room k cs = λ i. (length (enlarged-codes k cs i), (ap length (enlarged-numbers k cs) ∙ length-map (numbersOf cs) (scale k)) i)
+
+pub enlarged-need : (k : ℕ) (o o' : Outcome (List PathCommand)) → o' ≡ enlargedDrawing k o → needOf o' ≡ needOf o
+enlarged-need k o o' e = ap needOf e ∙ go o
+  where
+    go : (p : Outcome (List PathCommand)) → needOf (enlargedDrawing k p) ≡ needOf p
+    go (refused r) = refl
+    go (accepted cs) = ap accepted (enlarged-room k cs)
 
 -- ---- the limit, which no number of a grid up to 2 ^ 22 passes
 pub limit-value : HasValue commandLimit false 4194304 1

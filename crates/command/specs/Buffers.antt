@@ -1,5 +1,5 @@
 -- What a call that fills buffers promises of its result and of each buffer, and the last check before it does. Definitions only.
-use Prim.Native.Nat.{ℕ}
+use Prim.Native.Nat.{ℕ, _≤_}
 use mathlib.Core.Path.{_≡_}
 use mathlib.Core.Bool.{Bool, cond, _&&_}
 use mathlib.Core.List.{List, _++_}
@@ -7,6 +7,7 @@ use lib.Dec.{leb}
 use lib.Ieee.{Float}
 use lib.ListN.{length, drop}
 use Rattle.command.specs.declared.PathCommand.{PathCommand}
+use Rattle.command.specs.declared.Room.{Room}
 use Rattle.command.specs.declared.Refusal.the-variants.{BufferTooSmall}
 use Rattle.command.specs.Commands.{codesOf, numbersOf}
 use Rattle.command.specs.Outcomes.{Outcome, refused, accepted, numberOf, mapped, listOf}
@@ -24,9 +25,25 @@ fitted fits (accepted a) = cond (fits a) (accepted a) (refused BufferTooSmall)
 abbrev pub inBuffer : {A : Type 0} → ℕ → List A → Bool
 inBuffer n xs = leb (length xs) n
 
--- the codes and the numbers of commands fit two buffers of these lengths
+-- how many codes and numbers commands need
+abbrev pub roomOf : List PathCommand → ℕ × ℕ
+roomOf cs = (length (codesOf cs), length (numbersOf cs))
+
+-- the codes and numbers that a `Room` is
+abbrev pub pairOf : Room → ℕ × ℕ
+pairOf room = (room .codes, room .numbers)
+
+-- so many codes and numbers are within a room: no more codes, and no more numbers
+abbrev pub Within : ℕ × ℕ → ℕ × ℕ → Type 0
+Within need room = (need .0 ≤ room .0) × (need .1 ≤ room .1)
+
+-- the need of a drawing: exactly the codes and numbers that it writes, or why it is refused
+abbrev pub needOf : Outcome (List PathCommand) → Outcome (ℕ × ℕ)
+needOf o = mapped roomOf o
+
+-- two buffers of these lengths hold what commands need
 abbrev pub inBuffers : ℕ → ℕ → List PathCommand → Bool
-inBuffers codes numbers cs = inBuffer codes (codesOf cs) && inBuffer numbers (numbersOf cs)
+inBuffers codes numbers cs = leb (roomOf cs .0) codes && leb (roomOf cs .1) numbers
 
 -- The promise about a buffer: the number is the outcome's, the count is that of its list, and the list is the beginning of the buffer; all else in it is
 -- as it was.
@@ -40,7 +57,3 @@ pub record FilledBoth (o : Outcome (List PathCommand)) (number codesCount number
     : Type 0 where
   pub codes-filled : Filled (mapped codesOf o) number codesCount codes codes'
   pub numbers-filled : Filled (mapped numbersOf o) number numbersCount numbers numbers'
-
--- how many codes and numbers commands need
-abbrev pub roomOf : List PathCommand → ℕ × ℕ
-roomOf cs = (length (codesOf cs), length (numbersOf cs))

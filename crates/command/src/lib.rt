@@ -40,6 +40,12 @@ pub enum Counts {
     Of(usize, usize),
 }
 
+// So many codes and so many numbers: what commands need of two buffers, or the places after what is written there.
+pub struct Room {
+    pub codes: usize,
+    pub numbers: usize,
+}
+
 // What checks alone come to: the first refusal, or that all of them pass.
 pub enum Verdict {
     Refused(Refusal),

@@ -21,7 +21,7 @@ use Rattle.path.proofs.Paths.{pathCommands-few}
 use Rattle.shape.specs.declared.Shape.{Shape}
 use Rattle.shape.specs.declared.Shape.the-variants.{Path, Ellipse}
 use Rattle.shape.specs.Shape.{shapeCommands, Fit}
-use Rattle.shape.proofs.Few.{few}
+use Rattle.shape.proofs.Enough.{few}
 use Rattle.item.specs.declared.ItemRow.{ItemRow}
 use Rattle.item.specs.Rows.{itemRow, isPath, entriesOf}
 use Rattle.draw.specs.Checks.{coordinateLimit}

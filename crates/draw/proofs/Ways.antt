@@ -10,15 +10,15 @@ use lib.Dec.{eqb, leb}
 use lib.Ieee.{Float, nan}
 use lib.ListN.{length, getD, take, drop, length-drop}
 use lib.Seq.{length-take-le, take-all, getD-drop}
-use borrow.Author.Tests.{eq-eqb, ne-eqb, eqb-false, lt-ltb, le-ltb}
+use borrow.Author.Tests.{eq-eqb, ne-eqb, eqb-false, lt-ltb, le-ltb, ltb-false}
 use Rattle.ieee.specs.Limit.{allWithin}
 use Rattle.command.specs.declared.PathCommand.{PathCommand}
 use Rattle.command.specs.declared.Refusal.{Refusal}
 use Rattle.command.specs.declared.Refusal.the-variants.{Empty, TooMany, OutOfRange, Unlisted, Unsupported, OutOfBounds}
 use Rattle.command.specs.declared.Counts.{Counts}
 use Rattle.command.specs.Refusals.{refusalNumber}
-use Rattle.command.specs.Outcomes.{Outcome, refused, accepted, mapped, _gives_, checked, countsOf, countsNumber, firstCount, secondCount}
-use Rattle.command.specs.Buffers.{inBuffers, fitted, FilledBoth, roomOf}
+use Rattle.command.specs.Outcomes.{Outcome, accepted, _gives_, checked, countsNumber, firstCount, secondCount}
+use Rattle.command.specs.Buffers.{inBuffers, fitted, FilledBoth}
 use Rattle.command.proofs.Buffers.{both-unfilled}
 use Rattle.command.specs.declared.Verdict.{Verdict}
 use Rattle.command.specs.declared.Verdict.the-variants.{Refused, Passed}
@@ -280,18 +280,15 @@ pub ruleset sources = (
   source-passes,
 )
 
--- ---- a row behind its checks: what shape_of asks, and what check_item and source_need owe
+-- ---- a row behind its checks: what shape_of asks, and what draw_source owes
 module _ (row : ItemRow) (items : List Float) (u : Verdict) (u-is : verdictOf u ≡ checked (sourceChecks row items) (accepted tt)) where
   abbrev rest : List Float
   rest = drop (row .place) items
 
-  pub source-turned : (r : Refusal) → u ≡ Refused r → outcomeOf (Fault r) items ≡ drawSource row items
-  unfolding drawSource outcomeOf
-  source-turned r e = sym (behind-refused (sourceChecks row items) u u-is r e (shapeDrawn row rest))
-
-  pub need-turned : (r : Refusal) → u ≡ Refused r → refused r ≡ mapped roomOf (drawSource row items)
-  unfolding drawSource
-  need-turned r e = rw (behind-refused (sourceChecks row items) u u-is r e (shapeDrawn row rest))
+  pub source-refused : (codes : List ℕ) (numbers : List Float) (r : Refusal) → u ≡ Refused r
+      → FilledBoth (fitted (inBuffers (length codes) (length numbers)) (drawSource row items)) (refusalNumber r) 0 0 codes codes numbers numbers
+  unfolding drawSource fitted
+  source-refused codes numbers r e = rw (behind-refused (sourceChecks row items) u u-is r e (shapeDrawn row rest)) (both-unfilled r codes numbers)
 
   module _ (e : u ≡ Passed) where
     passed : SourcePassed row items
@@ -306,40 +303,33 @@ module _ (row : ItemRow) (items : List Float) (u : Verdict) (u-is : verdictOf u 
     pub numbers-inside : row .place + entriesOf row ≤ length items
     numbers-inside = passed .inside
 
-    drawn-is : drawSource row items ≡ shapeDrawn row rest
-    unfolding drawSource
-    drawn-is = behind-passed (sourceChecks row items) u u-is e (shapeDrawn row rest)
-
     pub source-made : (k : Checked) → outcomeOf k items ≡ shapeDrawn row rest → outcomeOf k items ≡ drawSource row items
-    source-made k is = is ∙ sym drawn-is
+    unfolding drawSource
+    source-made k is = is ∙ sym (behind-passed (sourceChecks row items) u u-is e (shapeDrawn row rest))
 
-    pub need-made : (k : Checked) (r : Counts) → outcomeOf k items ≡ shapeDrawn row rest → countsOf r ≡ mapped roomOf (outcomeOf k items)
-        → countsOf r ≡ mapped roomOf (drawSource row items)
-    need-made k r is f = f ∙ ap (mapped roomOf) (is ∙ sym drawn-is)
+pub ruleset behind-checks = (some-vertices, few-vertices, numbers-inside, source-made)
 
-pub ruleset behind-checks = (source-turned, need-turned, some-vertices, few-vertices, numbers-inside, source-made, need-made)
-
--- ---- check_item
-module _ (row : List ℕ) (items : List Float) where
-  pub row-short : length row < 6 → outcomeOf (Fault OutOfBounds) items ≡ drawItem row items
-  unfolding drawItem itemChecks outcomeOf
+-- ---- check_row
+module _ (row : List ℕ) where
+  pub row-short : length row < 6 → verdictOf (Refused OutOfBounds) ≡ checked (itemChecks row) (accepted tt)
+  unfolding itemChecks
   row-short a = rw (lt-ltb (length row) 6 a)
 
   module _ (a : 6 ≤ length row) (r : ItemRow) (r-is : r ≡ itemRow row 0) (t : Bool) (t-is : t ≡ isDrawable r) where
     row-judged : isDrawable (itemRow row 0) ≡ t
     row-judged = ap isDrawable (sym r-is) ∙ sym t-is
 
-    pub row-unlisted : t ≡ false → outcomeOf (Fault Unlisted) items ≡ drawItem row items
-    unfolding drawItem itemChecks outcomeOf
+    pub row-unlisted : t ≡ false → verdictOf (Refused Unlisted) ≡ checked (itemChecks row) (accepted tt)
+    unfolding itemChecks
     row-unlisted b = rw (le-ltb (length row) 6 a, row-judged ∙ b)
 
-    pub row-source : (s : Checked) → outcomeOf s items ≡ drawSource r items → t ≡ true → outcomeOf s items ≡ drawItem row items
-    unfolding drawItem itemChecks
-    row-source s e b = rw (le-ltb (length row) 6 a, row-judged ∙ b) (e ∙ ap (λ (x : ItemRow). drawSource x items) r-is)
+    pub row-passes : t ≡ true → verdictOf Passed ≡ checked (itemChecks row) (accepted tt)
+    unfolding itemChecks
+    row-passes b = rw (le-ltb (length row) 6 a, row-judged ∙ b)
 
-pub ruleset items = (row-short, row-unlisted, row-source, behind-checks)
+pub ruleset row-checks = (row-short, row-unlisted, row-passes)
 
--- ---- checked_need and draw_checked
+-- ---- draw_checked
 pub tail : (l : List Float) (a : ℕ) → take (length l - a) (drop a l) ≡ drop a l
 tail l a = take-all (length l - a) (drop a l) (rw length-drop (le-refl (length l - a)))
 
@@ -350,15 +340,7 @@ module _ (k : Checked) (v : List Float) where
   fault-refused codes numbers r is =
       rw is (both-unfilled r codes numbers)
 
-  pub fault-need : (r : Refusal) → k ≡ Fault r → refused r ≡ mapped roomOf (outcomeOf k v)
-  unfolding outcomeOf
-  fault-need r is = rw is
-
   module _ (place : ℕ) (s : Shape) (is : k ≡ Sound place s) where
-    pub sound-need : (r : Counts) → countsOf r ≡ accepted (roomOf (shapeCommands s (take (length v - place) (drop place v)))) → countsOf r ≡ mapped roomOf (outcomeOf k v)
-    unfolding outcomeOf
-    sound-need r e = rw is (rw (tail v place) at e)
-
     ready-sound : Ready k v → (place ≤ length v) × Fit s (drop place v)
     ready-sound ready = rw is at ready
 
@@ -375,11 +357,35 @@ module _ (k : Checked) (v : List Float) where
     unfolding outcomeOf
     sound-drawn codes codes' numbers numbers' r f = rw is (rw (tail v place) at f)
 
--- ---- draw_item
+-- ---- draw_source and draw_item
 pub as-checked : (k : Checked) (v : List Float) (o : Outcome (List PathCommand)) (codes codes' : List ℕ) (numbers numbers' : List Float) (r : Counts)
     → outcomeOf k v ≡ o
     → FilledBoth (fitted (inBuffers (length codes) (length numbers)) (outcomeOf k v)) (countsNumber r) (firstCount r) (secondCount r) codes codes' numbers numbers'
     → FilledBoth (fitted (inBuffers (length codes) (length numbers)) o) (countsNumber r) (firstCount r) (secondCount r) codes codes' numbers numbers'
 as-checked k v o codes codes' numbers numbers' r e f = rw (← e) f
 
-pub ruleset drawings = (fault-refused, fault-need, sound-need, sound-place, sound-fit, sound-drawn)
+pub ruleset source-drawings = (source-refused, as-checked, behind-checks)
+
+module _ (row : List ℕ) (items : List Float) (u : Verdict) (u-is : verdictOf u ≡ checked (itemChecks row) (accepted tt)) where
+  pub item-refused : (codes : List ℕ) (numbers : List Float) (r : Refusal) → u ≡ Refused r
+      → FilledBoth (fitted (inBuffers (length codes) (length numbers)) (drawItem row items)) (refusalNumber r) 0 0 codes codes numbers numbers
+  unfolding drawItem fitted
+  item-refused codes numbers r e = rw (behind-refused (itemChecks row) u u-is r e (drawSource (itemRow row 0) items)) (both-unfilled r codes numbers)
+
+  module _ (e : u ≡ Passed) where
+    pub row-whole : 6 ≤ length row
+    unfolding itemChecks
+    row-whole = let pass = all-pass (itemChecks row) u u-is e in omega (arith, ltb-false, pass)
+
+    pub item-drawn : (r : ItemRow) → r ≡ itemRow row 0 → drawSource r items ≡ drawItem row items
+    unfolding drawItem
+    item-drawn r is = ap (λ (x : ItemRow). drawSource x items) is ∙ sym (behind-passed (itemChecks row) u u-is e (drawSource (itemRow row 0) items))
+
+    pub item-filled : (r : ItemRow) (codes codes' : List ℕ) (numbers numbers' : List Float) (n : Counts) → r ≡ itemRow row 0
+        → FilledBoth (fitted (inBuffers (length codes) (length numbers)) (drawSource r items)) (countsNumber n) (firstCount n) (secondCount n) codes codes' numbers numbers'
+        → FilledBoth (fitted (inBuffers (length codes) (length numbers)) (drawItem row items)) (countsNumber n) (firstCount n) (secondCount n) codes codes' numbers numbers'
+    item-filled r codes codes' numbers numbers' n is f = rw (← (item-drawn r is)) f
+
+pub ruleset item-drawings = (item-refused, row-whole, item-filled)
+
+pub ruleset drawings = (fault-refused, sound-place, sound-fit, sound-drawn)

@@ -8,23 +8,22 @@ ghost use mathlib.Core.Path.{_≡_};
 ghost use Prim.Native.Nat.{_+_, _≤_};
 ghost use lib.ListN.{length, drop};
 ghost use mathlib.Core.Bool.{false};
-ghost use Rattle.command.specs.Outcomes.{accepted, mapped, checked, countsOf, countsNumber, firstCount, secondCount};
+ghost use Rattle.command.specs.Outcomes.{accepted, checked, countsNumber, firstCount, secondCount};
 ghost use Rattle.command.specs.Verdicts.{verdictOf};
-ghost use Rattle.command.specs.Buffers.{inBuffers, fitted, FilledBoth, roomOf};
+ghost use Rattle.command.specs.Buffers.{inBuffers, fitted, FilledBoth};
 ghost use Rattle.item.specs.Rows.{entriesOf};
 ghost use Rattle.draw.specs.Checks.{outcomeOf, Ready};
 ghost use Rattle.draw.specs.Paths.{pathChecks, drawPath};
-ghost use Rattle.draw.specs.Items.{isDrawable, isHeldBack, hasNoVertices, sourceChecks, shapeDrawn, drawSource, drawItem};
+ghost use Rattle.draw.specs.Items.{isDrawable, isHeldBack, hasNoVertices, sourceChecks, shapeDrawn, drawSource, itemChecks, drawItem};
 
-// What the checks of a row and the making of its shape come to: a refusal, or a shape and the place where its numbers
-// start.
+// What the making of a row's shape comes to: a refusal, or a shape and the place where its numbers start.
 pub enum Checked {
     Fault(Refusal),
     Sound(usize, Shape),
 }
 
 // The checks of a vertex list, all but that of the buffers.
-fn check_path(closed: u32, vertices: &[f32], count: usize) -> Verdict
+pub fn check_path(closed: u32, vertices: &[f32], count: usize) -> Verdict
     ensures { λ r. ⌜ verdictOf r ≡ checked (pathChecks closed (now (vertices .entry)) count) (accepted tt) ⌝ }
 {
     if count == 0 {
@@ -98,7 +97,7 @@ pub fn shape_of(row: ItemRow, items: &[f32]) -> Checked
 }
 
 // The checks of a row with listed entries, all but that of the buffers.
-fn check_source(row: ItemRow, items: &[f32]) -> Verdict
+pub fn check_source(row: ItemRow, items: &[f32]) -> Verdict
     ensures { λ r. ⌜ verdictOf r ≡ checked (sourceChecks row (now (items .entry))) (accepted tt) ⌝ }
 {
     if is_held_back(row) {
@@ -125,42 +124,17 @@ fn check_source(row: ItemRow, items: &[f32]) -> Verdict
     }
 }
 
-// The checks of one item row, all but that of the buffers.
-fn check_item(row: &[u32], items: &[f32]) -> Checked
-    ensures { λ r. ⌜ (outcomeOf r (now (items .entry)) ≡ drawItem (now (row .entry)) (now (items .entry))) × Ready r (now (items .entry)) ⌝ }
+// The checks of one item row by itself: that it is there, and that it may be asked to be drawn.
+pub fn check_row(row: &[u32]) -> Verdict
+    ensures { λ r. ⌜ verdictOf r ≡ checked (itemChecks (now (row .entry))) (accepted tt) ⌝ }
 {
     if row.len() < 6 {
-        return Checked::Fault(Refusal::OutOfBounds);
+        return Verdict::Refused(Refusal::OutOfBounds);
     }
-    let first = item::item_row(row, 0);
-    if is_drawable(first) {
-        match check_source(first, items) {
-            Verdict::Refused(refusal) => Checked::Fault(refusal),
-            Verdict::Passed => shape_of(first, items),
-        }
+    if is_drawable(item::item_row(row, 0)) {
+        Verdict::Passed
     } else {
-        Checked::Fault(Refusal::Unlisted)
-    }
-}
-
-// What the checks let pass needs.
-fn checked_need(checked: Checked, list: &[f32]) -> Counts
-    requires { ⌜ Ready checked (now list) ⌝ }
-    ensures { λ r. ⌜ countsOf r ≡ mapped roomOf (outcomeOf checked (now (list .entry))) ⌝ }
-{
-    match checked {
-        Checked::Fault(refusal) => Counts::Refused(refusal),
-        Checked::Sound(place, shape) => shape::need_of(shape, &list[place..]),
-    }
-}
-
-// What a row with listed entries needs: its codes and its numbers, or why it is refused.
-pub fn source_need(row: ItemRow, items: &[f32]) -> Counts
-    ensures { λ r. ⌜ countsOf r ≡ mapped roomOf (drawSource row (now (items .entry))) ⌝ }
-{
-    match check_source(row, items) {
-        Verdict::Refused(refusal) => Counts::Refused(refusal),
-        Verdict::Passed => checked_need(shape_of(row, items), items),
+        Verdict::Refused(Refusal::Unlisted)
     }
 }
 
@@ -197,6 +171,19 @@ pub fn draw_path(
     }
 }
 
+// Draws a row with listed entries into two buffers.
+fn draw_source(row: ItemRow, items: &[f32], codes: &mut [u8], numbers: &mut [f32]) -> Counts
+    ensures { λ r. ⌜ FilledBoth
+        (fitted (inBuffers (length (now (codes .entry))) (length (now (numbers .entry)))) (drawSource row (now (items .entry))))
+        (countsNumber r) (firstCount r) (secondCount r)
+        (now (codes .entry)) (now (codes .exit)) (now (numbers .entry)) (now (numbers .exit)) ⌝ }
+{
+    match check_source(row, items) {
+        Verdict::Refused(refusal) => Counts::Refused(refusal),
+        Verdict::Passed => draw_checked(shape_of(row, items), items, codes, numbers),
+    }
+}
+
 // Draws one item row into two buffers.
 pub fn draw_item(row: &[u32], items: &[f32], codes: &mut [u8], numbers: &mut [f32]) -> Counts
     ensures { λ r. ⌜ FilledBoth
@@ -204,5 +191,8 @@ pub fn draw_item(row: &[u32], items: &[f32], codes: &mut [u8], numbers: &mut [f3
         (countsNumber r) (firstCount r) (secondCount r)
         (now (codes .entry)) (now (codes .exit)) (now (numbers .entry)) (now (numbers .exit)) ⌝ }
 {
-    draw_checked(check_item(row, items), items, codes, numbers)
+    match check_row(row) {
+        Verdict::Refused(refusal) => Counts::Refused(refusal),
+        Verdict::Passed => draw_source(item::item_row(row, 0), items, codes, numbers),
+    }
 }

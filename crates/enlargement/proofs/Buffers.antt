@@ -13,7 +13,7 @@ use Rattle.command.specs.Commands.{numbersOf}
 use Rattle.command.specs.Outcomes.{Outcome, refused, accepted, mapped}
 use Rattle.command.specs.Buffers.{fitted, inBuffer, inBuffers}
 use Rattle.command.specs.Enlarged.{enlarged}
-use Rattle.command.proofs.Enlarged.{enlarged-codes, enlarged-numbers}
+use Rattle.command.proofs.Enlarged.{enlarged-codes, enlarged-numbers, enlarged-room}
 use Rattle.copies.specs.Calls.{orderAnswer}
 use Rattle.copies.specs.Enlarged.{movedNumbers}
 use Rattle.enlargement.specs.Plates.{Plate}
@@ -60,9 +60,7 @@ same-lines k (accepted cs) = record {
 }
 
 room-same : (k : ℕ) (s : ℕ × ℕ) (cs : List PathCommand) → inBuffers (s .0) (s .1) (map (enlarged k) cs) ≡ inBuffers (s .0) (s .1) cs
-room-same k s cs =
-    let S = same-lines k (accepted cs) in
-    λ i. leb (S .codes-same .count-same i) (s .0) && leb (S .numbers-multiplied .count-same i) (s .1)
+room-same k s cs = ap (λ (n : ℕ × ℕ). leb (n .0) (s .0) && leb (n .1) (s .1)) (enlarged-room k cs)
 
 drawn-alike : (k : ℕ) (o o' : Outcome (List PathCommand)) → o' ≡ mapped (map (enlarged k)) o → DrawnAlike k o o'
 drawn-alike k o o' e = fitted-alike (λ (s : ℕ × ℕ). inBuffers (s .0) (s .1)) (SameLines k) (map (enlarged k)) (room-same k) (same-lines k) o o' e

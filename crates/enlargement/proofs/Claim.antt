@@ -11,11 +11,13 @@ use Rattle.ieee.specs.Grid.{scale}
 use Rattle.command.specs.declared.PathCommand.{PathCommand}
 use Rattle.command.specs.Commands.{codesOf, numbersOf}
 use Rattle.command.specs.Outcomes.{Outcome, mapped}
-use Rattle.command.specs.Enlarged.{Twins, enlarged}
-use Rattle.command.proofs.Enlarged.{enlarged-codes, enlarged-numbers}
+use Rattle.command.specs.Enlarged.{Twins, enlarged, enlargedDrawing}
+use Rattle.command.proofs.Enlarged.{enlarged-codes, enlarged-numbers, enlarged-need}
 use Rattle.item.specs.Rows.{itemRow}
-use Rattle.estimate.specs.Estimate.{trayEstimate}
+use Rattle.draw.specs.Paths.{drawPath}
+use Rattle.draw.specs.Items.{drawItem}
 use Rattle.merge.specs.Decision.{decision}
+use Rattle.join.specs.Merge.{drawMerge}
 use Rattle.judge.specs.Lists.{findCommand, commandFault, commandPart}
 use Rattle.judge.proofs.Enlarged.{found-twins, fault-twins, part-twins}
 use Rattle.length.specs.Lists.{measureList}
@@ -67,20 +69,35 @@ module _ (k : ℕ) (K : k ≤ 6) (p p' : Plate) (G : PlateOnGrid p) (E : Enlarge
   unfolding enlargedRepeater
   mode-same = ap (λ (r : RepeaterStyle). r .mode) (E .repeater)
 
+  -- what is drawn
+  path-drawn : drawPath (p' .lent .closed) (p' .vertices) (p' .lent .count) ≡ enlargedDrawing k (drawPath (p .lent .closed) (p .vertices) (p .lent .count))
+  path-drawn =
+      rw (E .lent)
+      (path-alike k K (p .lent .closed) (p .lent .count) (p .vertices) (p' .vertices)
+      (multiplied-twins k K (OfVertices (p .lent .count)) (p .vertices) (p' .vertices) (G .vertices) (E .vertices)) .outcome)
+
+  item-drawn : drawItem (p' .lent .row) (p' .items) ≡ enlargedDrawing k (drawItem (p .lent .row) (p .items))
+  item-drawn =
+      rw (E .lent)
+      (row-alike k K (p .lent .row) (p .items) (p' .items)
+      (multiplied-twins k K (OfRow (itemRow (p .lent .row) 0)) (p .items) (p' .items) (G .row) (E .row)) .outcome)
+
+  merge-drawn : drawMerge (p' .lent .rows) (p' .lent .rowCount) (p' .items) ≡ enlargedDrawing k (drawMerge (p .lent .rows) (p .lent .rowCount) (p .items))
+  merge-drawn =
+      rw (E .lent)
+      (merge-alike k K (p .lent .rows) (p .lent .rowCount) (p .items) (p' .items)
+      (multiplied-twins k K (OfMerge (p .lent .rows) (p .lent .rowCount)) (p .items) (p' .items) (G .rows) (E .rows)) .outcome)
+
   answered : AnsweredAlike k p p'
   answered = record {
-    path-drawn =
-        rw (E .lent)
-        (path-alike k K (p .lent .closed) (p .lent .count) (p .vertices) (p' .vertices) (multiplied-twins k K (OfVertices (p .lent .count)) (p .vertices) (p' .vertices) (G .vertices) (E .vertices)) .outcome);
-    item-drawn =
-        rw (E .lent)
-        (row-alike k K (p .lent .row) (p .items) (p' .items) (multiplied-twins k K (OfRow (itemRow (p .lent .row) 0)) (p .items) (p' .items) (G .row) (E .row)) .outcome);
-    tray-estimate = ap (λ (l : Lent). trayEstimate (l .count)) (E .lent);
+    path-drawn = path-drawn;
+    item-drawn = item-drawn;
+    path-need = enlarged-need k (drawPath (p .lent .closed) (p .vertices) (p .lent .count)) (drawPath (p' .lent .closed) (p' .vertices) (p' .lent .count)) path-drawn;
+    item-need = enlarged-need k (drawItem (p .lent .row) (p .items)) (drawItem (p' .lent .row) (p' .items)) item-drawn;
     merge-decision = ap (λ (l : Lent). decision (l .rows) (l .rowCount)) (E .lent);
-    merge-drawn =
-        rw (E .lent)
-        (merge-alike k K (p .lent .rows) (p .lent .rowCount) (p .items) (p' .items)
-        (multiplied-twins k K (OfMerge (p .lent .rows) (p .lent .rowCount)) (p .items) (p' .items) (G .rows) (E .rows)) .outcome);
+    merge-drawn = merge-drawn;
+    merge-need =
+        enlarged-need k (drawMerge (p .lent .rows) (p .lent .rowCount) (p .items)) (drawMerge (p' .lent .rows) (p' .lent .rowCount) (p' .items)) merge-drawn;
     length-measured =
         ap₂ measureList codes-enlarged numbers-enlarged ∙ measured-twins k 35 16 cs cs' (lit≤ tt) (omega arith) small lists ∙ ap (mapped (scale k)) (sym (ap₂ measureList codes-first (G .numbers-are)));
     command-found =

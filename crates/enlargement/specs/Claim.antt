@@ -2,7 +2,7 @@
 -- `AnsweredAlike` has a field for each call:
 --
 --   drawing                     the same refusal, or the same codes and every coordinate multiplied
---   tray estimate               the same
+--   tray need                   the same refusal, or the same codes and numbers needed: of a list, of a row, of a merge
 --   merge decision              the same: a refusal, or which rows are joined
 --   merge                       as drawing
 --   length                      the same refusal, or the length multiplied
@@ -26,10 +26,10 @@ use lib.ListN.{take, drop}
 use Rattle.ieee.specs.Grid.{scale}
 use Rattle.command.specs.Commands.{numbersOf}
 use Rattle.command.specs.Outcomes.{Outcome, mapped, listOf}
+use Rattle.command.specs.Buffers.{needOf}
 use Rattle.command.specs.Enlarged.{enlargedDrawing}
 use Rattle.draw.specs.Paths.{drawPath}
 use Rattle.draw.specs.Items.{drawItem}
-use Rattle.estimate.specs.Estimate.{trayEstimate}
 use Rattle.merge.specs.Decision.{decision}
 use Rattle.join.specs.Merge.{drawMerge}
 use Rattle.judge.specs.Lists.{findCommand, commandFault, commandPart}
@@ -62,9 +62,11 @@ multipliedNumbers p =
 pub record AnsweredAlike (k : ℕ) (p p' : Plate) : Type 0 where
   pub path-drawn : drawPath (p' .lent .closed) (p' .vertices) (p' .lent .count) ≡ enlargedDrawing k (drawPath (p .lent .closed) (p .vertices) (p .lent .count))
   pub item-drawn : drawItem (p' .lent .row) (p' .items) ≡ enlargedDrawing k (drawItem (p .lent .row) (p .items))
-  pub tray-estimate : trayEstimate (p' .lent .count) ≡ trayEstimate (p .lent .count)
+  pub path-need : needOf (drawPath (p' .lent .closed) (p' .vertices) (p' .lent .count)) ≡ needOf (drawPath (p .lent .closed) (p .vertices) (p .lent .count))
+  pub item-need : needOf (drawItem (p' .lent .row) (p' .items)) ≡ needOf (drawItem (p .lent .row) (p .items))
   pub merge-decision : decision (p' .lent .rows) (p' .lent .rowCount) ≡ decision (p .lent .rows) (p .lent .rowCount)
   pub merge-drawn : drawMerge (p' .lent .rows) (p' .lent .rowCount) (p' .items) ≡ enlargedDrawing k (drawMerge (p .lent .rows) (p .lent .rowCount) (p .items))
+  pub merge-need : needOf (drawMerge (p' .lent .rows) (p' .lent .rowCount) (p' .items)) ≡ needOf (drawMerge (p .lent .rows) (p .lent .rowCount) (p .items))
   pub length-measured : measureList (p' .lent .codes) (p' .numbers) ≡ mapped (scale k) (measureList (p .lent .codes) (p .numbers))
   pub command-found : findCommand (p' .lent .codes) (p' .numbers) (p' .lent .command) ≡ findCommand (p .lent .codes) (p .numbers) (p .lent .command)
   pub command-fault : commandFault (p' .lent .codes) (p' .numbers) (p' .lent .command) ≡ commandFault (p .lent .codes) (p .numbers) (p .lent .command)

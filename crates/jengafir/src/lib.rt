@@ -9,10 +9,9 @@ ghost use Rattle.ieee.specs.Remainder.{remEuclid};
 ghost use Rattle.ieee.specs.Fused.{fma};
 ghost use Rattle.ieee.specs.Root.{hypotOf};
 ghost use Rattle.command.specs.Outcomes.{Told, Counted};
-ghost use Rattle.command.specs.Buffers.{fitted, inBuffer, inBuffers, Filled, FilledBoth};
+ghost use Rattle.command.specs.Buffers.{fitted, inBuffer, inBuffers, needOf, Filled, FilledBoth};
 ghost use Rattle.draw.specs.Paths.{drawPath};
 ghost use Rattle.draw.specs.Items.{drawItem};
-ghost use Rattle.estimate.specs.Estimate.{trayEstimate};
 ghost use Rattle.join.specs.Merge.{drawMerge};
 ghost use Rattle.judge.specs.Lists.{findCommand};
 ghost use Rattle.length.specs.Lists.{measureList};
@@ -110,14 +109,34 @@ pub extern "C" fn jengafir_draw_item(
 }
 
 #[no_mangle]
-pub extern "C" fn jengafir_tray_estimate(
+pub extern "C" fn jengafir_tray_need(
+    closed: u32,
+    vertices: &[f32],
     count: usize,
     codes_needed: &mut usize,
     numbers_needed: &mut usize,
 ) -> u32
-    ensures { λ r. ⌜ Counted (trayEstimate count) r (now («codes_needed» .exit)) (now («numbers_needed» .exit)) ⌝ }
+    ensures { λ r. ⌜ Counted (needOf (drawPath closed (now (vertices .entry)) count))
+        r (now («codes_needed» .exit)) (now («numbers_needed» .exit)) ⌝ }
 {
-    command::tell(estimate::tray_estimate(count), codes_needed, numbers_needed)
+    command::tell(
+        need::path_need(closed, vertices, count),
+        codes_needed,
+        numbers_needed,
+    )
+}
+
+#[no_mangle]
+pub extern "C" fn jengafir_item_need(
+    row: &[u32],
+    items: &[f32],
+    codes_needed: &mut usize,
+    numbers_needed: &mut usize,
+) -> u32
+    ensures { λ r. ⌜ Counted (needOf (drawItem (now (row .entry)) (now (items .entry))))
+        r (now («codes_needed» .exit)) (now («numbers_needed» .exit)) ⌝ }
+{
+    command::tell(need::item_need(row, items), codes_needed, numbers_needed)
 }
 
 #[no_mangle]
@@ -137,6 +156,24 @@ pub extern "C" fn jengafir_merge(
 {
     let drawn = join::draw_merge(rows, row_count, items, codes, numbers);
     command::tell(drawn, codes_written, numbers_written)
+}
+
+#[no_mangle]
+pub extern "C" fn jengafir_merge_need(
+    rows: &[u32],
+    row_count: usize,
+    items: &[f32],
+    codes_needed: &mut usize,
+    numbers_needed: &mut usize,
+) -> u32
+    ensures { λ r. ⌜ Counted (needOf (drawMerge (now (rows .entry)) «row_count» (now (items .entry))))
+        r (now («codes_needed» .exit)) (now («numbers_needed» .exit)) ⌝ }
+{
+    command::tell(
+        join::merge_need(rows, row_count, items),
+        codes_needed,
+        numbers_needed,
+    )
 }
 
 #[no_mangle]

@@ -6,3 +6,4 @@ pub mod Single
 pub mod Read
 pub mod Enlarged
 mod Cases
+pub mod Enough

@@ -3,7 +3,7 @@
 use mathlib.Core.Path.{_≡_, refl, sym, ap, _∙_}
 use mathlib.Core.Bool.{Bool, true, false, cond}
 use mathlib.Core.List.{List, [], _∷_, _++_, map}
-use Prim.Native.Nat.{ℕ, zero, suc, _+_, _-_, _*_, _^_, _≤_, _<_, zero-le}
+use Prim.Native.Nat.{ℕ, zero, suc, _+_, _-_, _*_, _≤_, _<_, zero-le}
 use native.Mathlib.Nat.{zero-add, add-zero}
 use native.Mathlib.Omega.{arith}
 use mir.Val.{Fits}
@@ -19,8 +19,8 @@ use Rattle.command.specs.declared.Counts.{Counts}
 use Rattle.command.specs.declared.Counts.the-variants.{Refused, Of}
 use Rattle.command.specs.Commands.{codesOf, numbersOf}
 use Rattle.command.specs.Refusals.{refusalNumber}
-use Rattle.command.specs.Outcomes.{Outcome, refused, accepted, mapped, valueOr, listOf, countsOf, countsNumber, firstCount, secondCount}
-use Rattle.command.specs.Buffers.{inBuffers, fitted, FilledBoth, roomOf}
+use Rattle.command.specs.Outcomes.{Outcome, refused, accepted, listOf, countsOf, countsNumber, firstCount, secondCount}
+use Rattle.command.specs.Buffers.{inBuffers, fitted, FilledBoth, roomOf, needOf}
 use Rattle.command.proofs.Outcomes.{refused-accepted}
 use Rattle.command.proofs.Passes.{codes-length, codes-append, numbers-append}
 use Rattle.command.proofs.Buffers.{sets-append, fitted-accepted, fitted-refused, filled, both-unfilled}
@@ -34,6 +34,7 @@ use Rattle.draw.specs.Checks.{outcomeOf}
 use Rattle.draw.specs.Items.{hasNoVertices, shapeDrawn, drawSource}
 use Rattle.draw.proofs.Ways.{sound-place, sound-fit, tail}
 use Rattle.draw.proofs.Sources.{DrawnSource, drawn-source, source-few, source-numbers-few}
+use Rattle.need.proofs.Enough.{drawn-needs}
 use Rattle.nest.specs.Lists.{rowsFrom}
 use Rattle.nest.proofs.Rows.{rest-step, rest-none, rest-all}
 use Rattle.merge.specs.declared.Decision.{Decision}
@@ -44,10 +45,6 @@ use Rattle.join.specs.Merge.{followedBy, drawSources, drawJoined, drawMe
 use Rattle.join.specs.Sources.{isAccepted, drawRow, drawRows, needAfter}
 
 -- ---- row_need
--- the codes and numbers that a drawing needs
-abbrev needOf : Outcome (List PathCommand) → Outcome (ℕ × ℕ)
-needOf o = mapped roomOf o
-
 module _ (row : ItemRow) (items : List Float) (t : Bool) (is : t ≡ isSourceRow row) where
   pub row-source : t ≡ true → drawRow row items ≡ drawSource row items
   unfolding drawRow
@@ -79,11 +76,11 @@ need-refused (accepted cs) p r e = refused-accepted r (roomOf cs) e
 
 -- what a need that is told says of the drawing
 need-told : (o : Outcome (List PathCommand)) (c n : ℕ) → countsOf (Of c n) ≡ needOf o → (o ≡ accepted (listOf o)) × (c ≡ length (codesIn o)) × (n ≡ length (numbersIn o))
-need-told (refused q) c n e = refused-accepted q (c, n) (sym e)
-need-told (accepted cs) c n e =
-    (refl, ap (λ (x : Outcome (ℕ × ℕ)). valueOr c (mapped (λ (k : ℕ × ℕ). k .0) x)) e, ap (λ (x : Outcome (ℕ × ℕ)). valueOr n (mapped (λ (k : ℕ × ℕ). k .1) x)) e)
+need-told o c n e =
+    let d = drawn-needs o (c, n) (sym e) in
+    (d .0, sym (ap (λ (k : ℕ × ℕ). k .0) (d .1)), sym (ap (λ (k : ℕ × ℕ). k .1) (d .1)))
 
-need-room : (o p : Outcome (List PathCommand)) (c n : ℕ) → countsOf (Of c n) ≡ needOf o → needOf (followedBy o p) ≡ needAfter c n (needOf p)
+pub need-room : (o p : Outcome (List PathCommand)) (c n : ℕ) → countsOf (Of c n) ≡ needOf o → needOf (followedBy o p) ≡ needAfter c n (needOf p)
 unfolding followedBy needAfter
 need-room (refused q) p c n e = refused-accepted q (c, n) (sym e)
 need-room (accepted cs) (refused r) c n e = refl
@@ -241,11 +238,8 @@ module _ (row : ItemRow) (items : List Float) (t : Bool) (is : t ≡ isSourceRow
         pub row-numbers-room : (j n : ℕ) → j + length (numbersIn (drawRow row items)) ≤ n → j + length (numbersOf (shapeCommands s part)) ≤ n
         row-numbers-room j n room = rw row-commands room
 
-        pub row-codes-after : (i n : ℕ) → n ≡ length (shapeCommands s part) → i + n ≡ i + length (codesIn (drawRow row items))
-        row-codes-after i n e = ap (λ (k : ℕ). i + k) (e ∙ ap length row-commands ∙ sym (codes-length (listOf (drawRow row items))))
-
-        pub row-place-fits : (i n room : ℕ) → n ≡ length (shapeCommands s part) → i + length (codesIn (drawRow row items)) ≤ room → room < 2 ^ 64 → Fits w64 (i + n)
-        row-place-fits i n room e h g = record { fits = omega (arith, row-codes-after i n e) }
+        pub row-codes-after : (i r : ℕ) → r ≡ i + length (codesOf (shapeCommands s part)) → r ≡ i + length (codesIn (drawRow row items))
+        row-codes-after i r e = e ∙ ap (λ (cs : List PathCommand). i + length (codesOf cs)) row-commands
 
         pub row-numbers-after : (j r : ℕ) → r ≡ j + length (numbersOf (shapeCommands s part)) → r ≡ j + length (numbersIn (drawRow row items))
         row-numbers-after j r e = e ∙ ap (λ (cs : List PathCommand). j + length (numbersOf cs)) row-commands
@@ -283,7 +277,6 @@ pub ruleset row-writes = (
   row-codes-room,
   row-numbers-room,
   row-codes-after,
-  row-place-fits,
   row-numbers-after,
   row-codes-written,
   row-numbers-written,
@@ -448,7 +441,7 @@ module _ (o : Outcome (List PathCommand)) (codes : List ℕ) (numbers : List Flo
 
 pub ruleset joins = (need-unfilled, need-drawn, need-codes-short, need-codes-room, need-numbers-short, need-numbers-room, need-written)
 
--- ---- draw_merge
+-- ---- draw_merge and merge_need
 
 nothing-first : (o : Outcome (List PathCommand)) → followedBy (accepted []) o ≡ o
 unfolding followedBy
@@ -477,6 +470,10 @@ module _ (rows : List ℕ) (n : ℕ) (items : List Float) (k : Decision) (is : s
   unfolding drawMerge said fitted
   merge-refused codes numbers r e = rw (← is, e) (both-unfilled r codes numbers)
 
+  pub merge-need-refused : (r : Refusal) → k ≡ Merge.Refused r → refused r ≡ needOf merged
+  unfolding drawMerge said
+  merge-need-refused r e = rw (← is, e)
+
   module _ (m : ℕ) (e : k ≡ Merge.Joined m) where
     joined-is : drawRows (rowsFrom rows 0 m) items ≡ merged
     unfolding drawMerge drawJoined said
@@ -496,4 +493,9 @@ module _ (rows : List ℕ) (n : ℕ) (items : List Float) (k : Decision) (is : s
         → FilledBoth (fitted (inBuffers (length codes) (length numbers)) merged) (countsNumber r) (firstCount r) (secondCount r) codes codes' numbers numbers'
     merge-joined codes codes' numbers numbers' r f = rw (← joined-is) f
 
+    pub merge-need-joined : (r : Counts) → countsOf r ≡ needOf (drawRows (rowsFrom rows 0 m) items) → countsOf r ≡ needOf merged
+    merge-need-joined r f = f ∙ ap needOf joined-is
+
 pub ruleset merges = (merge-refused, merge-few, merge-inside, merge-joined)
+
+pub ruleset merge-needs = (merge-need-refused, merge-few, merge-inside, merge-need-joined)

@@ -2,3 +2,4 @@
 pub mod Merge
 pub mod Sources
 pub mod Joined
+pub mod Enough

@@ -1,6 +1,7 @@
 // The sources of a merge drawn one after another: judged and counted whole, then written.
 use command::Counts;
 use command::Refusal;
+use command::Room;
 use draw::Checked;
 use item::ItemRow;
 use merge::Decision;
@@ -10,24 +11,18 @@ ghost use Prim.Native.Nat.{_+_, _*_, _≤_};
 ghost use lib.ListN.{length};
 ghost use lib.Seq.{sets};
 ghost use Rattle.command.specs.Commands.{codesOf, numbersOf};
-ghost use Rattle.command.specs.Outcomes.{mapped, listOf, countsOf, countsNumber, firstCount, secondCount};
-ghost use Rattle.command.specs.Buffers.{inBuffers, fitted, FilledBoth, roomOf};
+ghost use Rattle.command.specs.Outcomes.{listOf, countsOf, countsNumber, firstCount, secondCount};
+ghost use Rattle.command.specs.Buffers.{inBuffers, fitted, FilledBoth, needOf};
 ghost use Rattle.nest.specs.Lists.{rowsFrom};
 ghost use Rattle.join.specs.Merge.{drawMerge};
 ghost use Rattle.join.specs.Sources.{isAccepted, drawRow, drawRows};
 
-// Places in the two buffers.
-pub struct Places {
-    pub codes: usize,
-    pub numbers: usize,
-}
-
 // What a row needs: nothing where it is no source.
 fn row_need(row: ItemRow, items: &[f32]) -> Counts
-    ensures { λ r. ⌜ countsOf r ≡ mapped roomOf (drawRow row (now (items .entry))) ⌝ }
+    ensures { λ r. ⌜ countsOf r ≡ needOf (drawRow row (now (items .entry))) ⌝ }
 {
     if merge::is_source(row) {
-        draw::source_need(row, items)
+        need::source_need(row, items)
     } else {
         Counts::Of(0, 0)
     }
@@ -36,7 +31,7 @@ fn row_need(row: ItemRow, items: &[f32]) -> Counts
 // What the sources among the first m rows need together, or the first refusal of one.
 fn rows_need(rows: &[u32], m: usize, items: &[f32]) -> Counts
     requires { ⌜ (m ≤ 256) × (6 * m ≤ length (now rows)) ⌝ }
-    ensures { λ r. ⌜ countsOf r ≡ mapped roomOf (drawRows (rowsFrom (now (rows .entry)) 0 m) (now (items .entry))) ⌝ }
+    ensures { λ r. ⌜ countsOf r ≡ needOf (drawRows (rowsFrom (now (rows .entry)) 0 m) (now (items .entry))) ⌝ }
 {
     let mut codes: usize = 0;
     let mut numbers: usize = 0;
@@ -64,7 +59,7 @@ fn write_row(
     i: usize,
     numbers: &mut [f32],
     j: usize,
-) -> Places
+) -> Room
     requires { ⌜ isAccepted (drawRow row (now items)) ≡ true ⌝ }
     requires { ⌜ i + length (codesOf (listOf (drawRow row (now items)))) ≤ length (now codes) ⌝ }
     requires { ⌜ j + length (numbersOf (listOf (drawRow row (now items)))) ≤ length (now numbers) ⌝ }
@@ -75,21 +70,16 @@ fn write_row(
 {
     if merge::is_source(row) {
         match draw::shape_of(row, items) {
-            Checked::Fault(_) => Places {
+            Checked::Fault(_) => Room {
                 codes: i,
                 numbers: j,
             },
             Checked::Sound(place, shape) => {
-                let list = &items[place..];
-                let next = shape::write_at(shape, list, codes, i, numbers, j);
-                Places {
-                    codes: i + shape::count_of(shape, list),
-                    numbers: next,
-                }
+                shape::write_at(shape, &items[place..], codes, i, numbers, j)
             }
         }
     } else {
-        Places {
+        Room {
             codes: i,
             numbers: j,
         }
@@ -155,5 +145,15 @@ pub fn draw_merge(
     match merge::decide(rows, n) {
         Decision::Refused(refusal) => Counts::Refused(refusal),
         Decision::Joined(m) => join_rows(rows, m, items, codes, numbers),
+    }
+}
+
+// What the merge of the first n rows needs, or why it is refused.
+pub fn merge_need(rows: &[u32], n: usize, items: &[f32]) -> Counts
+    ensures { λ r. ⌜ countsOf r ≡ needOf (drawMerge (now (rows .entry)) n (now (items .entry))) ⌝ }
+{
+    match merge::decide(rows, n) {
+        Decision::Refused(refusal) => Counts::Refused(refusal),
+        Decision::Joined(m) => rows_need(rows, m, items),
     }
 }

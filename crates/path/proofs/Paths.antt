@@ -24,7 +24,7 @@ shift-one v k j = getD-drop 6 v (6 * k + j) nan ∙ ap (λ (m : ℕ). getD v m n
 shift-first : (v : List Float) (k : ℕ) → getD (drop 6 v) (6 * k) nan ≡ getD v (6 * suc k) nan
 shift-first v k = getD-drop 6 v (6 * k) nan ∙ ap (λ (m : ℕ). getD v m nan) (omega arith)
 
-shift : (v : List Float) (k : ℕ) → vertexAt (drop 6 v) k ≡ vertexAt v (suc k)
+pub shift : (v : List Float) (k : ℕ) → vertexAt (drop 6 v) k ≡ vertexAt v (suc k)
 shift v k = λ i. record {
   x = shift-first v k i;
   y = shift-one v k 1 i;

@@ -1,6 +1,6 @@
 -- What each way out of a function of this crate owes, as the code meets it: a premise for each test and for each call's result,
 -- so that `search` finds them all. Assumes nothing.
-use mathlib.Core.Path.{_≡_, refl, sym, ap, ap₂, _∙_}
+use mathlib.Core.Path.{_≡_, sym, ap₂, _∙_}
 use mathlib.Core.Bool.{Bool, true, false, _&&_}
 use mathlib.Core.List.{List}
 use Prim.Native.Nat.{ℕ, _+_, _-_, _≤_, _<_}
@@ -11,19 +11,15 @@ use borrow.Author.Tests.{eq-eqb, ne-eqb}
 use Rattle.command.specs.declared.PathCommand.{PathCommand}
 use Rattle.command.specs.declared.PathCommand.the-variants.{Move, Line, Cubic, Close}
 use Rattle.path.specs.declared.BezierVertex.{BezierVertex}
-use Rattle.command.specs.Commands.{coordinatesOf}
 use Rattle.path.specs.Path.{outX, outY, inX, inY, isLine, vertexAt, verticesOf, bezierSegment, bezierPath, bezierCount, Sound}
 use Rattle.path.proofs.Paths.{path-start, path-line, path-inner, path-closing, path-past}
 
 -- ---- approx_eq_point and is_line
 
-pub and-both : (p q a b : Bool) → p ≡ a → p ≡ true → q ≡ b → q ≡ (a && b)
-and-both p q a b e h f = rw (← e, h) f
+pub both-near : (p q a b : Bool) → p ≡ a → q ≡ b → (p && q) ≡ (a && b)
+both-near p q a b e f = ap₂ _&&_ e f
 
-pub and-not : (p a b : Bool) → p ≡ a → p ≡ false → false ≡ (a && b)
-and-not p a b e h = rw (← e, h)
-
--- ---- bezier_segment and segment_size
+-- ---- bezier_segment
 module _ (a b : BezierVertex) (t : Bool) (is : t ≡ isLine a b) where
   pub segment-line : t ≡ true → Line (b .x) (b .y) ≡ bezierSegment a b
   unfolding bezierSegment
@@ -32,12 +28,6 @@ module _ (a b : BezierVertex) (t : Bool) (is : t ≡ isLine a b) where
   pub segment-cubic : t ≡ false → Cubic (outX a) (outY a) (inX b) (inY b) (b .x) (b .y) ≡ bezierSegment a b
   unfolding bezierSegment
   segment-cubic h = rw (← is, h)
-
-  pub size-line : t ≡ true → 2 ≡ length (coordinatesOf (bezierSegment a b))
-  size-line h = ap (λ (c : PathCommand). length (coordinatesOf c)) (segment-line h)
-
-  pub size-cubic : t ≡ false → 6 ≡ length (coordinatesOf (bezierSegment a b))
-  size-cubic h = ap (λ (c : PathCommand). length (coordinatesOf c)) (segment-cubic h)
 
 -- ---- bezier_command
 module _ (c : Bool) (n : ℕ) (v : List Float) (k : ℕ) (s : Sound v n) where
@@ -60,30 +50,6 @@ module _ (c : Bool) (n : ℕ) (v : List Float) (k : ℕ) (s : Sound v n) where
       pub at-past : n ≤ k → (k ≡ n → ⊥) → Close ≡ getD (bezierPath c (verticesOf n v)) k Close
       at-past h g = sym (path-past c n v k (omega (arith, s .some)) (omega arith))
 
--- ---- bezier_size
-module _ (c : Bool) (n : ℕ) (v : List Float) (k : ℕ) (s : Sound v n) where
-  abbrev size : PathCommand → ℕ
-  size x = length (coordinatesOf x)
-
-  pub size-move : k ≡ 0 → 2 ≡ length (coordinatesOf (getD (bezierPath c (verticesOf n v)) k Close))
-  size-move h = ap size (at-move c n v k s (vertexAt v 0) refl h)
-
-  module _ (p : k ≡ 0 → ⊥) (inside : k < length (bezierPath c (verticesOf n v))) where
-    pub size-one : n ≡ 1 → 2 ≡ length (coordinatesOf (getD (bezierPath c (verticesOf n v)) k Close))
-    size-one h = ap size (at-line c n v k s p inside (vertexAt v 0) refl h)
-
-    pub size-inner : (a b : BezierVertex) (m : ℕ) → a ≡ vertexAt v (k - 1) → b ≡ vertexAt v k → m ≡ length (coordinatesOf (bezierSegment a b)) → k < n
-        → m ≡ length (coordinatesOf (getD (bezierPath c (verticesOf n v)) k Close))
-    size-inner a b m e f g h = g ∙ ap size (at-inner c n v k s p inside a b (bezierSegment a b) e f refl h)
-
-    module _ (m : n ≡ 1 → ⊥) where
-      pub size-back : (a b : BezierVertex) (z : ℕ) → a ≡ vertexAt v (n - 1) → b ≡ vertexAt v 0 → z ≡ length (coordinatesOf (bezierSegment a b)) → n ≤ k → k ≤ n
-          → z ≡ length (coordinatesOf (getD (bezierPath c (verticesOf n v)) k Close))
-      size-back a b z e f g h l = g ∙ ap size (at-back c n v k s p inside m a b (bezierSegment a b) e f refl (omega arith))
-
-      pub size-past : n < k → 0 ≡ length (coordinatesOf (getD (bezierPath c (verticesOf n v)) k Close))
-      size-past h = ap size (at-past c n v k s p inside m (omega arith) (λ e. omega arith))
-
 -- ---- bezier_count
 module _ (closed count : ℕ) where
   pub count-one : count ≡ 1 → 2 ≡ bezierCount closed count
@@ -96,12 +62,9 @@ module _ (closed count : ℕ) where
   count-open h g = rw (ne-eqb count 1 h, ne-eqb closed 1 g)
 
 pub ruleset ways = (
-  and-both,
-  and-not,
+  both-near,
   segment-line,
   segment-cubic,
-  size-line,
-  size-cubic,
   at-move,
   at-line,
   at-inner,
@@ -111,5 +74,3 @@ pub ruleset ways = (
   count-closed,
   count-open,
 )
-
-pub ruleset sizes = (size-move, size-one, size-inner, size-back, size-past)

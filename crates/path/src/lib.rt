@@ -5,7 +5,6 @@ ghost use mathlib.Core.Bool.{Bool, _&&_};
 ghost use Prim.Native.Nat.{_+_, _*_, _<_, _≤_};
 ghost use lib.ListN.{length, getD};
 ghost use Rattle.command.specs.declared.PathCommand.the-variants.{Close};
-ghost use Rattle.command.specs.Commands.{coordinatesOf};
 ghost use Rattle.path.specs.Path.{vertexAt, verticesOf, approxEq, isLine, bezierSegment, bezierPath, bezierCount, Sound};
 
 // A vertex with its in-tangent and its out-tangent, both relative to it.
@@ -19,7 +18,7 @@ pub struct BezierVertex {
 }
 
 // Within 1e-4, equality included.
-fn approx_eq(a: f32, b: f32) -> bool
+pub fn approx_eq(a: f32, b: f32) -> bool
     ensures { λ r. ⌜ r ≡ approxEq a b ⌝ }
 {
     float::is_within(a - b, 0.0001)
@@ -29,15 +28,11 @@ fn approx_eq(a: f32, b: f32) -> bool
 fn approx_eq_point(ax: f32, ay: f32, bx: f32, by: f32) -> bool
     ensures { λ r. ⌜ r ≡ (approxEq ax bx && approxEq ay by) ⌝ }
 {
-    if approx_eq(ax, bx) {
-        approx_eq(ay, by)
-    } else {
-        false
-    }
+    approx_eq(ax, bx) & approx_eq(ay, by)
 }
 
 // The vertex at a place of the list.
-fn vertex_at(vertices: &[f32], k: usize) -> BezierVertex
+pub fn vertex_at(vertices: &[f32], k: usize) -> BezierVertex
     requires { ⌜ 6 * k + 6 ≤ length (now vertices) ⌝ }
     ensures { λ r. ⌜ r ≡ vertexAt (now (vertices .entry)) k ⌝ }
 {
@@ -53,14 +48,11 @@ fn vertex_at(vertices: &[f32], k: usize) -> BezierVertex
 }
 
 // Whether the segment between two vertices is a line: both control points are near their ends.
-fn is_line(a: BezierVertex, b: BezierVertex) -> bool
+pub fn is_line(a: BezierVertex, b: BezierVertex) -> bool
     ensures { λ r. ⌜ r ≡ isLine a b ⌝ }
 {
-    if approx_eq_point(a.x, a.y, a.x + a.ox, a.y + a.oy) {
-        approx_eq_point(b.x + b.ix, b.y + b.iy, b.x, b.y)
-    } else {
-        false
-    }
+    approx_eq_point(a.x, a.y, a.x + a.ox, a.y + a.oy)
+        & approx_eq_point(b.x + b.ix, b.y + b.iy, b.x, b.y)
 }
 
 // The segment between two vertices.
@@ -72,13 +64,6 @@ fn bezier_segment(a: BezierVertex, b: BezierVertex) -> PathCommand
     } else {
         PathCommand::Cubic(a.x + a.ox, a.y + a.oy, b.x + b.ix, b.y + b.iy, b.x, b.y)
     }
-}
-
-// How many numbers the segment between two vertices has.
-fn segment_size(a: BezierVertex, b: BezierVertex) -> usize
-    ensures { λ r. ⌜ r ≡ length (coordinatesOf (bezierSegment a b)) ⌝ }
-{
-    if is_line(a, b) { 2 } else { 6 }
 }
 
 // The command at place k of the path of the first `count` vertices, open or closed.
@@ -102,27 +87,6 @@ pub fn bezier_command(vertices: &[f32], count: usize, k: usize) -> PathCommand
         return bezier_segment(vertex_at(vertices, count - 1), vertex_at(vertices, 0));
     }
     PathCommand::Close
-}
-
-// How many numbers that command has.
-pub fn bezier_size(vertices: &[f32], count: usize, k: usize) -> usize
-    requires { ⌜ Sound (now vertices) count ⌝ }
-    ensures { λ r. ⌜ ((c : Bool) → k < length (bezierPath c (verticesOf count (now (vertices .entry))))
-        → r ≡ length (coordinatesOf (getD (bezierPath c (verticesOf count (now (vertices .entry)))) k Close))) ⌝ }
-{
-    if k == 0 {
-        return 2;
-    }
-    if count == 1 {
-        return 2;
-    }
-    if k < count {
-        return segment_size(vertex_at(vertices, k - 1), vertex_at(vertices, k));
-    }
-    if count < k {
-        return 0;
-    }
-    segment_size(vertex_at(vertices, count - 1), vertex_at(vertices, 0))
 }
 
 // How many commands the path has.

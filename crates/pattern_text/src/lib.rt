@@ -86,6 +86,19 @@ pub fn byte(line: &[u8], i: usize) -> u8 {
     if i < line.len() { line[i] } else { 0 }
 }
 
+// Whether a line asks what a call needs. Then `need-` stands before the line of the call.
+pub fn is_need(line: &[u8]) -> bool {
+    byte(line, 0) == b'n'
+}
+
+// The line of the call whose need a line asks for.
+pub fn needing<'a>(line: &'a [u8]) -> &'a [u8] {
+    if line.len() < 5 {
+        return line;
+    }
+    &line[5..]
+}
+
 pub fn number(pattern: u32) -> f32 {
     if pattern % 0x8000_0000 <= 0x7f80_0000 {
         f32::from_bits(pattern)

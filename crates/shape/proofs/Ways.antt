@@ -1,8 +1,8 @@
 -- What each way out of a function of this crate owes, as the code meets it. Assumes nothing.
-use mathlib.Core.Path.{_≡_, sym, _∙_}
-use mathlib.Core.Bool.{Bool, true, false}
+use mathlib.Core.Path.{_≡_, sym, ap, _∙_}
+use mathlib.Core.Bool.{Bool, true, false, _&&_, and-eq-true-iff}
 use mathlib.Core.List.{List}
-use Prim.Native.Nat.{ℕ, _+_, _*_, _≤_, _<_}
+use Prim.Native.Nat.{ℕ, _+_, _*_, _^_, _≤_, _<_}
 use native.Mathlib.Nat.{zero-add, lt-of-le-of-lt, mul-le-mul-right}
 use native.Mathlib.Omega.{arith}
 use mir.Val.{Fits}
@@ -15,24 +15,24 @@ use lib.Ieee.{Float, nan, le}
 use Rattle.command.specs.declared.PathCommand.{PathCommand}
 use Rattle.command.specs.declared.PathCommand.the-variants.{Close}
 use Rattle.command.specs.declared.Refusal.the-variants.{BufferTooSmall}
-use Rattle.command.specs.Commands.{coordinatesOf, codesOf, numbersOf}
+use Rattle.command.specs.Commands.{codesOf, numbersOf}
+use Rattle.command.specs.declared.Room.{Room}
 use Rattle.command.specs.Outcomes.{accepted}
-use Rattle.command.specs.Buffers.{fitted, inBuffers, FilledBoth, roomOf}
-use Rattle.command.proofs.Passes.{counts, codes-length}
+use Rattle.command.specs.Buffers.{fitted, inBuffers, FilledBoth, roomOf, pairOf}
+use Rattle.command.proofs.Passes.{codes-length}
 use Rattle.command.proofs.Writes.{writes}
 use Rattle.command.proofs.Buffers.{fitted-accepted, fitted-refused, filled, both-unfilled}
 use Rattle.path.specs.Path.{bezierPath, verticesOf, bezierCount, pathCommands}
 use Rattle.path.proofs.Paths.{pathCommands-length}
-use Rattle.path.proofs.Counts.{path-numbers}
 use Rattle.rect.specs.declared.Bounds.{Bounds}
 use Rattle.rect.specs.Rect.{epsilon, plainRect, roundRect, rectPath}
-use Rattle.rect.proofs.Ways.{rect-plain, rect-round, rect-room}
+use Rattle.rect.proofs.Ways.{rect-plain, rect-round}
 use Rattle.ellipse.specs.Ellipse.{ellipseIn, ellipsePath}
 use Rattle.ellipse.proofs.Ways.{ellipse-count, ellipse-numbers}
 use Rattle.shape.specs.declared.Shape.{Shape}
 use Rattle.shape.specs.declared.Shape.the-variants.{Path, Rect, Ellipse}
 use Rattle.shape.specs.Shape.{boundsOf, shapeCommands, Fit}
-use Rattle.shape.proofs.Few.{few}
+use Rattle.shape.proofs.Enough.{shape-enough}
 
 -- ---- a path
 module _ (closed count : ℕ) (v : List Float) (fit : Fit (Path closed count) v) where
@@ -47,21 +47,18 @@ module _ (closed count : ℕ) (v : List Float) (fit : Fit (Path closed count) v)
     unfolding shapeCommands pathCommands
     path-command r f = f _ inside
 
-    pub path-size : (m : ℕ)
-        → ((c : Bool) → k < length (bezierPath c (verticesOf count v)) → m ≡ length (coordinatesOf (getD (bezierPath c (verticesOf count v)) k Close)))
-        → m ≡ length (coordinatesOf (getD (shapeCommands (Path closed count) v) k Close))
-    unfolding shapeCommands pathCommands
-    path-size m f = f _ inside
-
-  pub path-enough : length (numbersOf (shapeCommands (Path closed count) v)) ≤ 6 * count + 2
+  pub path-numbers : (m : ℕ) → m ≡ length (numbersOf (pathCommands closed v count)) → m ≡ length (numbersOf (shapeCommands (Path closed count) v))
   unfolding shapeCommands
-  path-enough = path-numbers closed v count (fit .some)
+  path-numbers m e = e
 
 pub path-fit : (s : Shape) (v : List Float) (closed count : ℕ) → s ≡ Path closed count → Fit s v → Fit (Path closed count) v
 path-fit s v closed count is fit = rw is at fit
 
 pub path-few : (s : Shape) (v : List Float) (closed count : ℕ) → s ≡ Path closed count → Fit s v → count ≤ 1024
 path-few s v closed count is fit = path-fit s v closed count is fit .few
+
+pub codes-fit : (count : ℕ) → count ≤ 1024 → Fits w64 (count + 2)
+codes-fit count small = record { fits = omega arith }
 
 module _ (count : ℕ) (small : count ≤ 1024) (k : ℕ) (h : k ≤ 6) where
   pub six-fits : Fits w64 (k * count)
@@ -79,10 +76,6 @@ module _ (radius : Float) (v : List Float) where
   pub rect-numbers : (m : ℕ) → ((b : Bounds) → m ≡ length (numbersOf (rectPath b radius))) → m ≡ length (numbersOf (shapeCommands (Rect radius) v))
   unfolding shapeCommands
   rect-numbers m f = f _
-
-  pub rect-most : length (numbersOf (shapeCommands (Rect radius) v)) ≤ 34
-  unfolding shapeCommands
-  rect-most = rect-room (boundsOf v) radius .1
 
   module _ (b : Bounds) (t : Bool) (here : b ≡ boundsOf v) (is : t ≡ le radius epsilon) where
     pub plain-is : t ≡ true → shapeCommands (Rect radius) v ≡ plainRect b
@@ -118,9 +111,6 @@ module _ (v : List Float) where
   unfolding shapeCommands
   ellipse-few = sym (ellipse-numbers (getD v 0 nan) (getD v 1 nan) (getD v 2 nan) (getD v 3 nan))
 
-  pub ellipse-most : length (numbersOf (shapeCommands Ellipse v)) ≤ 34
-  ellipse-most = omega (arith, ellipse-few)
-
   pub ellipse-is : (b : Bounds) (cx cy w h : Float) → b ≡ boundsOf v → cx ≡ getD v 0 nan → cy ≡ getD v 1 nan → w ≡ getD v 2 nan → h ≡ getD v 3 nan
       → shapeCommands Ellipse v ≡ ellipseIn b cx cy w h
   unfolding shapeCommands ellipsePath
@@ -129,16 +119,16 @@ module _ (v : List Float) where
 pub ellipse-fit : (s : Shape) (v : List Float) → s ≡ Ellipse → Fit s v → Fit Ellipse v
 ellipse-fit s v is fit = rw is at fit
 
+pub room-is : (cs : List PathCommand) (n m : ℕ) → n ≡ length cs → m ≡ length (numbersOf cs) → (n, m) ≡ roomOf cs
+room-is cs n m e f = rw (codes-length cs, ← e, ← f)
+
 -- ---- the arms of a match on the kind: room for a shape is room for the kind that it is, and what that kind has and writes the shape has and writes
 module _ (s t : Shape) (is : s ≡ t) (v : List Float) where
-  pub count-is : (n : ℕ) → n ≡ length (shapeCommands t v) → n ≡ length (shapeCommands s v)
-  count-is n e = rw is e
+  pub need-is : (r : Room) → pairOf r ≡ roomOf (shapeCommands t v) → pairOf r ≡ roomOf (shapeCommands s v)
+  need-is r e = rw is e
 
-  pub numbers-are : (n : ℕ) → n ≡ length (numbersOf (shapeCommands t v)) → n ≡ length (numbersOf (shapeCommands s v))
-  numbers-are n e = rw is e
-
-  pub enough : (n : ℕ) → length (numbersOf (shapeCommands t v)) ≤ n → length (numbersOf (shapeCommands s v)) ≤ n
-  enough n h = rw is h
+  pub counts-are : (n m : ℕ) → n ≡ length (shapeCommands t v) → m ≡ length (numbersOf (shapeCommands t v)) → (n, m) ≡ roomOf (shapeCommands s v)
+  counts-are n m e f = rw is (room-is (shapeCommands t v) n m e f)
 
   module _ (i : ℕ) where
     pub codes-room : (n : ℕ) → i + length (codesOf (shapeCommands s v)) ≤ n → i + length (codesOf (shapeCommands t v)) ≤ n
@@ -146,6 +136,9 @@ module _ (s t : Shape) (is : s ≡ t) (v : List Float) where
 
     pub numbers-room : (n : ℕ) → i + length (numbersOf (shapeCommands s v)) ≤ n → i + length (numbersOf (shapeCommands t v)) ≤ n
     numbers-room n h = rw is at h
+
+    pub codes-place-is : (n : ℕ) → n ≡ i + length (codesOf (shapeCommands t v)) → n ≡ i + length (codesOf (shapeCommands s v))
+    codes-place-is n e = rw is e
 
     pub place-is : (n : ℕ) → n ≡ i + length (numbersOf (shapeCommands t v)) → n ≡ i + length (numbersOf (shapeCommands s v))
     place-is n e = rw is e
@@ -157,67 +150,90 @@ module _ (s t : Shape) (is : s ≡ t) (v : List Float) where
         → numbers' ≡ sets numbers i (numbersOf (shapeCommands s v))
     written numbers numbers' e = rw is e
 
+-- the place after the codes
+module _ (cs : List PathCommand) (i n : ℕ) (e : n ≡ length cs) where
+  pub codes-after : i + n ≡ i + length (codesOf cs)
+  codes-after = rw (codes-length cs, e)
+
+  pub after-fits : (room : ℕ) → i + length (codesOf cs) ≤ room → room < 2 ^ 64 → Fits w64 (i + n)
+  after-fits room h g = record { fits = omega (arith, codes-after) }
+
+pub ruleset afters = (codes-after, after-fits)
+
 -- all that the loops over a path, over a rectangle and over an ellipse ask, and all that the matches on the kind ask
-pub ruleset path-loops = (path-count, path-command, path-size, counts, writes, few)
+pub ruleset path-loops = (path-count, path-command, writes, afters)
 
-pub ruleset rect-loops = (plain-is, plain-five, round-is, round-ten, command-is, writes)
+pub ruleset rect-loops = (plain-is, plain-five, round-is, round-ten, command-is, writes, afters)
 
-pub ruleset ellipse-loops = (ellipse-is, ellipse-six, command-is, writes)
+pub ruleset ellipse-loops = (ellipse-is, ellipse-six, command-is, writes, afters)
 
-pub ruleset path-arms = (path-fit, path-few, path-count, six-fits, two-more-fit, path-enough)
+pub ruleset path-needs = (path-few, path-count, path-numbers, room-is)
 
-pub ruleset rect-arms = (rect-fit, rect-count, rect-numbers, rect-most)
+pub ruleset path-arms = (path-fit, path-few, path-count, path-numbers, codes-fit, six-fits, two-more-fit)
 
-pub ruleset ellipse-arms = (ellipse-fit, ellipse-six, ellipse-few, ellipse-most)
+pub ruleset rect-arms = (rect-fit, rect-count, rect-numbers)
 
-pub ruleset arms = (path-arms, rect-arms, ellipse-arms, count-is, numbers-are, enough, codes-room, numbers-room, place-is, codes-are, written)
+pub ruleset ellipse-arms = (ellipse-fit, ellipse-six, ellipse-few)
 
--- ---- need_of and numbers_fit
-pub room-is : (cs : List PathCommand) (n m : ℕ) → n ≡ length cs → m ≡ length (numbersOf cs) → accepted (n, m) ≡ accepted (roomOf cs)
-room-is cs n m e f = rw (codes-length cs, ← e, ← f)
+pub ruleset arms = (path-arms, rect-arms, ellipse-arms, need-is, counts-are, codes-room, numbers-room, codes-place-is, place-is, codes-are, written)
 
-pub room-enough : (a n room : ℕ) → a ≤ n → n ≤ room → true ≡ leb a room
-room-enough a n room e h = sym (le-leb a room (omega arith))
+-- ---- is_ample, holds and fits
+pub path-ample : (s : Shape) (v : List Float) (closed count codes numbers : ℕ) → s ≡ Path closed count → Fit s v → leb (count + 2) codes && leb (6 * count + 2) numbers ≡ true
+    → inBuffers codes numbers (shapeCommands s v) ≡ true
+path-ample s v closed count codes numbers is fit e =
+    let most = shape-enough (Path closed count) v (path-fit s v closed count is fit) in
+    let held = and-eq-true-iff (leb (count + 2) codes) (leb (6 * count + 2) numbers) .0 e in
+    let a = leb-true (count + 2) codes (held .0) in
+    let b = leb-true (6 * count + 2) numbers (held .1) in
+    rw (
+      is,
+      le-leb (roomOf (shapeCommands (Path closed count) v) .0) codes (omega arith),
+      le-leb (roomOf (shapeCommands (Path closed count) v) .1) numbers (omega arith),
+    )
 
-pub room-leb : (a b m : ℕ) → m ≡ a → leb m b ≡ leb a b
-room-leb a b m e = rw e
+pub ruleset amples = (path-few, codes-fit, six-fits, two-more-fit)
+
+pub both-held : (a b : ℕ) (t : Bool) → a ≤ b → t ≡ (leb a b && t)
+both-held a b t h = rw (le-leb a b h)
+
+pub none-held : (a b : ℕ) (t : Bool) → b < a → false ≡ (leb a b && t)
+none-held a b t h = rw (lt-leb a b h)
+
+module _ (s : Shape) (v : List Float) (room : Room) (codes numbers : ℕ) (t : Bool) (t-is : t ≡ (leb (room .codes) codes && leb (room .numbers) numbers)) where
+  pub fits-by-need : pairOf room ≡ roomOf (shapeCommands s v) → t ≡ inBuffers codes numbers (shapeCommands s v)
+  fits-by-need e = t-is ∙ ap (λ (n : ℕ × ℕ). leb (n .0) codes && leb (n .1) numbers) e
+
+pub fits-anyway : (s : Shape) (v : List Float) (codes numbers : ℕ) (t : Bool) → (t ≡ true → inBuffers codes numbers (shapeCommands s v) ≡ true) → t ≡ true
+    → true ≡ inBuffers codes numbers (shapeCommands s v)
+fits-anyway s v codes numbers t f e = sym (f e)
+
+pub ruleset fittings = (both-held, none-held, fits-by-need, fits-anyway)
 
 -- ---- draw_shape
-module _ (cs : List PathCommand) (codes : List ℕ) (numbers : List Float) (n : ℕ) (n-is : n ≡ length cs) where
-  pub codes-short : length codes < n → FilledBoth (fitted (inBuffers (length codes) (length numbers)) (accepted cs)) 11 0 0 codes codes numbers numbers
-  codes-short h =
-      rw (fitted-refused (inBuffers (length codes) (length numbers)) cs (rw (lt-leb (length (codesOf cs)) (length codes) (omega (arith, codes-length cs)))))
-      (both-unfilled BufferTooSmall codes numbers)
+module _ (cs : List PathCommand) (codes : List ℕ) (numbers : List Float) (t : Bool) (t-is : t ≡ inBuffers (length codes) (length numbers) cs) where
+  pub too-small : t ≡ false → FilledBoth (fitted (inBuffers (length codes) (length numbers)) (accepted cs)) 11 0 0 codes codes numbers numbers
+  too-small e = rw (fitted-refused (inBuffers (length codes) (length numbers)) cs (sym t-is ∙ e)) (both-unfilled BufferTooSmall codes numbers)
 
-  module _ (h : n ≤ length codes) (t : Bool) (t-is : t ≡ leb (length (numbersOf cs)) (length numbers)) where
-    codes-inside : length (codesOf cs) ≤ length codes
-    codes-inside = omega (arith, codes-length cs)
+  module _ (e : t ≡ true) where
+    inside : (length (codesOf cs) ≤ length codes) × (length (numbersOf cs) ≤ length numbers)
+    inside =
+        let held = and-eq-true-iff (leb (length (codesOf cs)) (length codes)) (leb (length (numbersOf cs)) (length numbers)) .0 (sym t-is ∙ e) in
+        (leb-true (length (codesOf cs)) (length codes) (held .0), leb-true (length (numbersOf cs)) (length numbers) (held .1))
 
-    fits-as : inBuffers (length codes) (length numbers) cs ≡ t
-    fits-as = rw (le-leb (length (codesOf cs)) (length codes) codes-inside) (sym t-is)
+    pub codes-held : 0 + length (codesOf cs) ≤ length codes
+    codes-held = omega (arith, inside .0)
 
-    pub numbers-short : t ≡ false → FilledBoth (fitted (inBuffers (length codes) (length numbers)) (accepted cs)) 11 0 0 codes codes numbers numbers
-    numbers-short e =
-        rw (fitted-refused (inBuffers (length codes) (length numbers)) cs (fits-as ∙ e)) (both-unfilled BufferTooSmall codes numbers)
+    pub numbers-held : 0 + length (numbersOf cs) ≤ length numbers
+    numbers-held = omega (arith, inside .1)
 
-    pub codes-fit : 0 + length (codesOf cs) ≤ length codes
-    codes-fit = omega (arith, codes-length cs)
+    pub all-written : (n m : ℕ) (codes' : List ℕ) (numbers' : List Float) → n ≡ 0 + length (codesOf cs) → m ≡ 0 + length (numbersOf cs)
+        → codes' ≡ sets codes 0 (codesOf cs) → numbers' ≡ sets numbers 0 (numbersOf cs)
+        → FilledBoth (fitted (inBuffers (length codes) (length numbers)) (accepted cs)) 0 n m codes codes' numbers numbers'
+    all-written n m codes' numbers' n-is q c d =
+        rw (fitted-accepted (inBuffers (length codes) (length numbers)) cs (sym t-is ∙ e))
+        (record {
+          codes-filled = filled (codesOf cs) codes codes' n (inside .0) (n-is ∙ zero-add _) c;
+          numbers-filled = filled (numbersOf cs) numbers numbers' m (inside .1) (q ∙ zero-add _) d;
+        })
 
-    module _ (e : t ≡ true) where
-      numbers-inside : length (numbersOf cs) ≤ length numbers
-      numbers-inside = leb-true (length (numbersOf cs)) (length numbers) (sym t-is ∙ e)
-
-      pub numbers-fit : 0 + length (numbersOf cs) ≤ length numbers
-      numbers-fit = omega (arith, numbers-inside)
-
-      pub all-written : (m : ℕ) (codes' : List ℕ) (numbers' : List Float) → m ≡ 0 + length (numbersOf cs)
-          → codes' ≡ sets codes 0 (codesOf cs) → numbers' ≡ sets numbers 0 (numbersOf cs)
-          → FilledBoth (fitted (inBuffers (length codes) (length numbers)) (accepted cs)) 0 n m codes codes' numbers numbers'
-      all-written m codes' numbers' q c d =
-          rw (fitted-accepted (inBuffers (length codes) (length numbers)) cs (fits-as ∙ e))
-          (record {
-            codes-filled = filled (codesOf cs) codes codes' n codes-inside (n-is ∙ sym (codes-length cs)) c;
-            numbers-filled = filled (numbersOf cs) numbers numbers' m numbers-inside (q ∙ zero-add _) d;
-          })
-
-pub ruleset drawings = (room-is, room-enough, room-leb, codes-short, numbers-short, codes-fit, numbers-fit, all-written)
+pub ruleset drawings = (too-small, codes-held, numbers-held, all-written)

@@ -1,5 +1,5 @@
 -- What a shape draws. Definitions only.
-use Prim.Native.Nat.{_≤_}
+use Prim.Native.Nat.{ℕ, _+_, _*_, _≤_}
 use mathlib.Core.List.{List}
 use lib.Ieee.{Float, nan}
 use lib.ListN.{length, getD}
@@ -27,3 +27,21 @@ abbrev pub Fit : Shape → List Float → Type 0
 Fit (Path closed count) v = Sound v count
 Fit (Rect radius) v = 4 ≤ length v
 Fit Ellipse v = 4 ≤ length v
+
+-- ---- Room that is enough for a shape, whatever its numbers. Of n vertices, open or closed, this was the tray estimate of document 01; what a shape needs
+-- is at most this (`shape-enough` in proofs/Enough.antt), and exactly as much as its commands have.
+abbrev pub pathRoom : ℕ → ℕ × ℕ
+pathRoom n = (n + 2, 6 * n + 2)
+
+-- that of round corners; sharp ones need 5 codes and 8 numbers
+abbrev pub rectRoom : ℕ × ℕ
+rectRoom = (10, 34)
+
+-- every ellipse needs just this
+abbrev pub ellipseRoom : ℕ × ℕ
+ellipseRoom = (6, 26)
+
+abbrev pub enoughFor : Shape → ℕ × ℕ
+enoughFor (Path closed count) = pathRoom count
+enoughFor (Rect radius) = rectRoom
+enoughFor Ellipse = ellipseRoom

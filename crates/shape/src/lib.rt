@@ -1,15 +1,17 @@
 // A drawing of any kind: its commands counted and written to two buffers, a command at a time.
 use command::Counts;
 use command::Refusal;
+use command::Room;
 use rect::Bounds;
 ghost use mathlib.Core.Path.{_≡_};
+ghost use mathlib.Core.Bool.{true, _&&_};
 ghost use Prim.Native.Nat.{_+_, _≤_};
 ghost use lib.Dec.{leb};
 ghost use lib.ListN.{length};
 ghost use lib.Seq.{sets};
 ghost use Rattle.command.specs.Commands.{codesOf, numbersOf};
-ghost use Rattle.command.specs.Outcomes.{accepted, countsOf, countsNumber, firstCount, secondCount};
-ghost use Rattle.command.specs.Buffers.{fitted, inBuffers, FilledBoth, roomOf};
+ghost use Rattle.command.specs.Outcomes.{accepted, countsNumber, firstCount, secondCount};
+ghost use Rattle.command.specs.Buffers.{fitted, inBuffers, FilledBoth, roomOf, pairOf};
 ghost use Rattle.shape.specs.declared.Shape.the-variants.{Path, Rect, Ellipse};
 ghost use Rattle.shape.specs.Shape.{boundsOf, shapeCommands, Fit};
 
@@ -23,54 +25,36 @@ pub enum Shape {
     Ellipse,
 }
 
-// How many commands a shape has, whatever its numbers.
-pub fn count_of(shape: Shape, list: &[f32]) -> usize
-    requires { ⌜ Fit shape (now list) ⌝ }
-    ensures { λ r. ⌜ r ≡ length (shapeCommands shape (now (list .entry))) ⌝ }
-{
-    match shape {
-        Shape::Path(closed, count) => path::bezier_count(closed, count),
-        Shape::Rect(radius) => rect::rect_count(radius),
-        Shape::Ellipse => 6,
-    }
-}
-
-// How many numbers a path has: a segment may be a line or a cubic, so each is looked at.
-fn path_numbers(closed: u32, count: usize, list: &[f32]) -> usize
+// What a path needs: each of its segments may be a line or a cubic, so all are looked at.
+pub fn path_need(closed: u32, count: usize, list: &[f32]) -> Room
     requires { ⌜ Fit (Path closed count) (now list) ⌝ }
-    ensures { λ r. ⌜ r ≡ length (numbersOf (shapeCommands (Path closed count) (now (list .entry)))) ⌝ }
+    ensures { λ r. ⌜ pairOf r ≡ roomOf (shapeCommands (Path closed count) (now (list .entry))) ⌝ }
 {
-    let n = path::bezier_count(closed, count);
-    let mut sum: usize = 0;
-    let mut k: usize = 0;
-    while k < n {
-        sum += path::bezier_size(list, count, k);
-        k += 1;
+    Room {
+        codes: path::bezier_count(closed, count),
+        numbers: segments::path_numbers(closed, list, count),
     }
-    sum
 }
 
-// How many numbers a shape has: the exact need.
-pub fn numbers_of(shape: Shape, list: &[f32]) -> usize
+// What a shape needs, exactly: the one count that drawing, telling and merging go by.
+pub fn need_of(shape: Shape, list: &[f32]) -> Room
     requires { ⌜ Fit shape (now list) ⌝ }
-    ensures { λ r. ⌜ r ≡ length (numbersOf (shapeCommands shape (now (list .entry)))) ⌝ }
+    ensures { λ r. ⌜ pairOf r ≡ roomOf (shapeCommands shape (now (list .entry))) ⌝ }
 {
     match shape {
-        Shape::Path(closed, count) => path_numbers(closed, count, list),
-        Shape::Rect(radius) => rect::rect_numbers(radius),
-        Shape::Ellipse => 26,
+        Shape::Path(closed, count) => path_need(closed, count, list),
+        Shape::Rect(radius) => Room {
+            codes: rect::rect_count(radius),
+            numbers: rect::rect_numbers(radius),
+        },
+        Shape::Ellipse => Room {
+            codes: 6,
+            numbers: 26,
+        },
     }
 }
 
-// How many codes and numbers a shape needs.
-pub fn need_of(shape: Shape, list: &[f32]) -> Counts
-    requires { ⌜ Fit shape (now list) ⌝ }
-    ensures { λ r. ⌜ countsOf r ≡ accepted (roomOf (shapeCommands shape (now (list .entry)))) ⌝ }
-{
-    Counts::Of(count_of(shape, list), numbers_of(shape, list))
-}
-
-// Writes a path at places of buffers that it fits, and gives the place after its numbers.
+// Writes a path at places of buffers that it fits, and gives the places after it.
 fn write_path(
     closed: u32,
     count: usize,
@@ -79,11 +63,12 @@ fn write_path(
     i: usize,
     numbers: &mut [f32],
     j: usize,
-) -> usize
+) -> Room
     requires { ⌜ Fit (Path closed count) (now list) ⌝ }
     requires { ⌜ i + length (codesOf (shapeCommands (Path closed count) (now list))) ≤ length (now codes) ⌝ }
     requires { ⌜ j + length (numbersOf (shapeCommands (Path closed count) (now list))) ≤ length (now numbers) ⌝ }
-    ensures { λ r. ⌜ r ≡ j + length (numbersOf (shapeCommands (Path closed count) (now (list .entry)))) ⌝ }
+    ensures { λ r. ⌜ r .codes ≡ i + length (codesOf (shapeCommands (Path closed count) (now (list .entry)))) ⌝ }
+    ensures { λ r. ⌜ r .numbers ≡ j + length (numbersOf (shapeCommands (Path closed count) (now (list .entry)))) ⌝ }
     ensures { λ _. ⌜ now (codes .exit) ≡ sets (now (codes .entry)) i (codesOf (shapeCommands (Path closed count) (now (list .entry)))) ⌝ }
     ensures { λ _. ⌜ now (numbers .exit) ≡ sets (now (numbers .entry)) j (numbersOf (shapeCommands (Path closed count) (now (list .entry)))) ⌝ }
 {
@@ -96,7 +81,10 @@ fn write_path(
         at = command::put_numbers(c, numbers, at);
         k += 1;
     }
-    at
+    Room {
+        codes: i + n,
+        numbers: at,
+    }
 }
 
 // The box whose centre and size are the first four numbers of a list.
@@ -107,7 +95,7 @@ fn bounds_of(list: &[f32]) -> Bounds
     rect::rect_bounds(list[0], list[1], list[2], list[3])
 }
 
-// Writes a rectangle at places of buffers that it fits, and gives the place after its numbers.
+// Writes a rectangle at places of buffers that it fits, and gives the places after it.
 // The counts are literals, so that the compiler lays the turns out one after the other.
 fn write_rect(
     radius: f32,
@@ -116,11 +104,12 @@ fn write_rect(
     i: usize,
     numbers: &mut [f32],
     j: usize,
-) -> usize
+) -> Room
     requires { ⌜ Fit (Rect radius) (now list) ⌝ }
     requires { ⌜ i + length (codesOf (shapeCommands (Rect radius) (now list))) ≤ length (now codes) ⌝ }
     requires { ⌜ j + length (numbersOf (shapeCommands (Rect radius) (now list))) ≤ length (now numbers) ⌝ }
-    ensures { λ r. ⌜ r ≡ j + length (numbersOf (shapeCommands (Rect radius) (now (list .entry)))) ⌝ }
+    ensures { λ r. ⌜ r .codes ≡ i + length (codesOf (shapeCommands (Rect radius) (now (list .entry)))) ⌝ }
+    ensures { λ r. ⌜ r .numbers ≡ j + length (numbersOf (shapeCommands (Rect radius) (now (list .entry)))) ⌝ }
     ensures { λ _. ⌜ now (codes .exit) ≡ sets (now (codes .entry)) i (codesOf (shapeCommands (Rect radius) (now (list .entry)))) ⌝ }
     ensures { λ _. ⌜ now (numbers .exit) ≡ sets (now (numbers .entry)) j (numbersOf (shapeCommands (Rect radius) (now (list .entry)))) ⌝ }
 {
@@ -134,7 +123,10 @@ fn write_rect(
             at = command::put_numbers(c, numbers, at);
             k += 1;
         }
-        return at;
+        return Room {
+            codes: i + 5,
+            numbers: at,
+        };
     }
     while k < 10 {
         let c = rect::round_command(bounds, radius, k);
@@ -142,15 +134,19 @@ fn write_rect(
         at = command::put_numbers(c, numbers, at);
         k += 1;
     }
-    at
+    Room {
+        codes: i + 10,
+        numbers: at,
+    }
 }
 
-// Writes an ellipse at places of buffers that it fits, and gives the place after its numbers.
-fn write_ellipse(list: &[f32], codes: &mut [u8], i: usize, numbers: &mut [f32], j: usize) -> usize
+// Writes an ellipse at places of buffers that it fits, and gives the places after it.
+fn write_ellipse(list: &[f32], codes: &mut [u8], i: usize, numbers: &mut [f32], j: usize) -> Room
     requires { ⌜ Fit Ellipse (now list) ⌝ }
     requires { ⌜ i + length (codesOf (shapeCommands Ellipse (now list))) ≤ length (now codes) ⌝ }
     requires { ⌜ j + length (numbersOf (shapeCommands Ellipse (now list))) ≤ length (now numbers) ⌝ }
-    ensures { λ r. ⌜ r ≡ j + length (numbersOf (shapeCommands Ellipse (now (list .entry)))) ⌝ }
+    ensures { λ r. ⌜ r .codes ≡ i + length (codesOf (shapeCommands Ellipse (now (list .entry)))) ⌝ }
+    ensures { λ r. ⌜ r .numbers ≡ j + length (numbersOf (shapeCommands Ellipse (now (list .entry)))) ⌝ }
     ensures { λ _. ⌜ now (codes .exit) ≡ sets (now (codes .entry)) i (codesOf (shapeCommands Ellipse (now (list .entry)))) ⌝ }
     ensures { λ _. ⌜ now (numbers .exit) ≡ sets (now (numbers .entry)) j (numbersOf (shapeCommands Ellipse (now (list .entry)))) ⌝ }
 {
@@ -167,10 +163,13 @@ fn write_ellipse(list: &[f32], codes: &mut [u8], i: usize, numbers: &mut [f32], 
         at = command::put_numbers(c, numbers, at);
         k += 1;
     }
-    at
+    Room {
+        codes: i + 6,
+        numbers: at,
+    }
 }
 
-// Writes a shape at places of buffers that it fits, and gives the place after its numbers.
+// Writes a shape at places of buffers that it fits, and gives the places after it.
 pub fn write_at(
     shape: Shape,
     list: &[f32],
@@ -178,11 +177,12 @@ pub fn write_at(
     i: usize,
     numbers: &mut [f32],
     j: usize,
-) -> usize
+) -> Room
     requires { ⌜ Fit shape (now list) ⌝ }
     requires { ⌜ i + length (codesOf (shapeCommands shape (now list))) ≤ length (now codes) ⌝ }
     requires { ⌜ j + length (numbersOf (shapeCommands shape (now list))) ≤ length (now numbers) ⌝ }
-    ensures { λ r. ⌜ r ≡ j + length (numbersOf (shapeCommands shape (now (list .entry)))) ⌝ }
+    ensures { λ r. ⌜ r .codes ≡ i + length (codesOf (shapeCommands shape (now (list .entry)))) ⌝ }
+    ensures { λ r. ⌜ r .numbers ≡ j + length (numbersOf (shapeCommands shape (now (list .entry)))) ⌝ }
     ensures { λ _. ⌜ now (codes .exit) ≡ sets (now (codes .entry)) i (codesOf (shapeCommands shape (now (list .entry)))) ⌝ }
     ensures { λ _. ⌜ now (numbers .exit) ≡ sets (now (numbers .entry)) j (numbersOf (shapeCommands shape (now (list .entry)))) ⌝ }
 {
@@ -193,28 +193,39 @@ pub fn write_at(
     }
 }
 
-// At least as many numbers as a shape has, without a look at its list. Rectangles and ellipses have at most the 34 of a
-// round rectangle; one number for both keeps this small enough to be inlined.
-fn enough_for(shape: Shape, list: &[f32]) -> usize
+// Whether two buffers of these lengths are enough for any path of so many vertices, so that this one need not be counted.
+// What the other kinds need is told without a look at their numbers.
+fn is_ample(shape: Shape, list: &[f32], codes: usize, numbers: usize) -> bool
     requires { ⌜ Fit shape (now list) ⌝ }
-    ensures { λ r. ⌜ length (numbersOf (shapeCommands shape (now (list .entry)))) ≤ r ⌝ }
+    ensures { λ r. ⌜ (r ≡ true → inBuffers codes numbers (shapeCommands shape (now (list .entry))) ≡ true) ⌝ }
 {
     match shape {
-        Shape::Path(_, count) => 6 * count + 2,
-        Shape::Rect(_) => 34,
-        Shape::Ellipse => 34,
+        Shape::Path(_, count) => (count + 2 <= codes) & (6 * count + 2 <= numbers),
+        Shape::Rect(_) => false,
+        Shape::Ellipse => false,
     }
 }
 
-// Whether a shape's numbers fit into this many places. They are counted only where they might not.
-fn numbers_fit(shape: Shape, list: &[f32], room: usize) -> bool
-    requires { ⌜ Fit shape (now list) ⌝ }
-    ensures { λ r. ⌜ r ≡ leb (length (numbersOf (shapeCommands shape (now (list .entry))))) room ⌝ }
+// Whether two buffers of these lengths have this much room.
+fn holds(room: Room, codes: usize, numbers: usize) -> bool
+    ensures { λ r. ⌜ r ≡ (leb (room .codes) codes && leb (room .numbers) numbers) ⌝ }
 {
-    if enough_for(shape, list) <= room {
+    if room.codes <= codes {
+        room.numbers <= numbers
+    } else {
+        false
+    }
+}
+
+// Whether a shape fits two buffers of these lengths.
+fn fits(shape: Shape, list: &[f32], codes: usize, numbers: usize) -> bool
+    requires { ⌜ Fit shape (now list) ⌝ }
+    ensures { λ r. ⌜ r ≡ inBuffers codes numbers (shapeCommands shape (now (list .entry))) ⌝ }
+{
+    if is_ample(shape, list, codes, numbers) {
         true
     } else {
-        numbers_of(shape, list) <= room
+        holds(need_of(shape, list), codes, numbers)
     }
 }
 
@@ -226,13 +237,9 @@ pub fn draw_shape(shape: Shape, list: &[f32], codes: &mut [u8], numbers: &mut [f
         (countsNumber r) (firstCount r) (secondCount r)
         (now (codes .entry)) (now (codes .exit)) (now (numbers .entry)) (now (numbers .exit)) ⌝ }
 {
-    let n = count_of(shape, list);
-    if n > codes.len() {
-        return Counts::Refused(Refusal::BufferTooSmall);
-    }
-    if numbers_fit(shape, list, numbers.len()) {
-        let m = write_at(shape, list, codes, 0, numbers, 0);
-        Counts::Of(n, m)
+    if fits(shape, list, codes.len(), numbers.len()) {
+        let written = write_at(shape, list, codes, 0, numbers, 0);
+        Counts::Of(written.codes, written.numbers)
     } else {
         Counts::Refused(Refusal::BufferTooSmall)
     }

@@ -1,4 +1,5 @@
-// Runs the vectors of merges: reads calls from standard input, one a line, and writes what each leaves behind.
+// Runs the vectors of merges and of their needs: reads calls from standard input, one a line, and writes what each
+// leaves behind.
 // tools/merge_vectors.py makes the lines and says how they read.
 ghost use Prim.Native.Nat.{_<_};
 use libc::STDIN_FILENO;
@@ -46,6 +47,11 @@ fn change_entry(rows: &mut [u32], line: &[u8]) {
     }
 }
 
+fn write_rows(rows: &mut [u32], line: &[u8]) {
+    fill_rows(rows, line);
+    change_entry(rows, line);
+}
+
 fn merge(line: &[u8], rows: &[u32], items: &[f32], codes: &mut [u8], numbers: &mut [f32]) {
     let count = pattern_text::size(pattern_text::field(line, 0));
     let drawn = join::draw_merge(rows, count, items, codes, numbers);
@@ -55,8 +61,7 @@ fn merge(line: &[u8], rows: &[u32], items: &[f32], codes: &mut [u8], numbers: &m
 // Merges what a line says with the first places of two lists and of two buffers, so many as the line says.
 fn lend(line: &[u8], rows: &mut [u32], list: &mut [f32], codes: &mut [u8], numbers: &mut [f32]) {
     let place = given(line) + 5;
-    fill_rows(rows, line);
-    change_entry(rows, line);
+    write_rows(rows, line);
     pattern_text::fill(list, line, place + 3);
     let entries = pattern_text::lent(line, 1, rows.len());
     let lent = pattern_text::lent(line, place, list.len());
@@ -71,18 +76,44 @@ fn lend(line: &[u8], rows: &mut [u32], list: &mut [f32], codes: &mut [u8], numbe
     );
 }
 
-fn answer(line: &[u8]) {
+fn merge_line(line: &[u8]) {
     let mut rows = [0; 1548];
     let mut list = [0.0; 6150];
     let mut codes = [0xee; 1030];
     let mut numbers = [-77.25; 6150];
-    io::write_all(STDOUT_FILENO, line);
-    io::write_all(STDOUT_FILENO, b"\n");
     lend(line, &mut rows, &mut list, &mut codes, &mut numbers);
 }
 
+// Tells the need of what a line says with the first places of two lists, so many as the line says.
+fn tell(line: &[u8], rows: &mut [u32], list: &mut [f32]) {
+    let place = given(line) + 5;
+    write_rows(rows, line);
+    pattern_text::fill(list, line, place + 1);
+    let count = pattern_text::size(pattern_text::field(line, 0));
+    let entries = pattern_text::lent(line, 1, rows.len());
+    let lent = pattern_text::lent(line, place, list.len());
+    let need = join::merge_need(&rows[0..entries], count, &list[0..lent]);
+    pattern_text::print_counts(b"needed ", need);
+}
+
+fn need_line(line: &[u8]) {
+    let mut rows = [0; 1548];
+    let mut list = [0.0; 6150];
+    tell(line, &mut rows, &mut list);
+}
+
+fn answer(line: &[u8]) {
+    io::write_all(STDOUT_FILENO, line);
+    io::write_all(STDOUT_FILENO, b"\n");
+    if pattern_text::is_need(line) {
+        need_line(pattern_text::needing(line));
+    } else {
+        merge_line(line);
+    }
+}
+
 fn main() {
-    let mut text = [0; 131072];
+    let mut text = [0; 262144];
     io::read_full(STDIN_FILENO, &mut text);
     for k in 0..pattern_text::line_count(&text) {
         answer(pattern_text::line(&text, k));

@@ -80,7 +80,7 @@ fn answer(line: &[u8]) {
 }
 
 fn main() {
-    let mut text = [0; 131072];
+    let mut text = [0; 262144];
     io::read_full(STDIN_FILENO, &mut text);
     for k in 0..pattern_text::line_count(&text) {
         answer(pattern_text::line(&text, k));

@@ -17,28 +17,22 @@ enum-told c = search needs
 enum-known-place : tie.Need-enum-known-place
 enum-known-place c = search needs
 
-mul-list : tie.Need-mul-list
-mul-list c =
+mul-write-at : tie.Need-mul-write-at
+mul-write-at c =
     let h = sound-place _ (c .before .before .before .before .before .before .before .before .before .args .items .now) _ _ (c .before .place .given .1) (search needs) in
     search needs
 
-sub-list : tie.Need-sub-list
-sub-list c = search (needs, row-writes)
+sub-write-at : tie.Need-sub-write-at
+sub-write-at c = search (needs, row-writes)
 
-part-list-start : tie.Need-part-list-start
-part-list-start c = search (needs, row-writes)
+part-write-at-start : tie.Need-part-write-at-start
+part-write-at-start c = search (needs, row-writes)
 
-part-list-end : tie.Need-part-list-end
-part-list-end c = search needs
+part-write-at-end : tie.Need-part-write-at-end
+part-write-at-end c = search needs
 
 write-at-requires : tie.Need-write-at-requires
 write-at-requires c κs = search (needs, row-writes)
-
-count-of-requires : tie.Need-count-of-requires
-count-of-requires c κs = search (needs, row-writes)
-
-add-t17 : tie.Need-add-t17
-add-t17 c = search (needs, row-writes)
 
 returns : tie.Need-returns
 returns c =
@@ -65,13 +59,11 @@ write-row-spec =
     shape-of-requires
     enum-told
     enum-known-place
-    mul-list
-    sub-list
-    part-list-start
-    part-list-end
+    mul-write-at
+    sub-write-at
+    part-write-at-start
+    part-write-at-end
     write-at-requires
-    count-of-requires
-    add-t17
     returns
     same-length
     same-length-2

@@ -1,6 +1,6 @@
 -- `path::approx_eq_point` meets its contract. Assumes nothing.
-use Rattle.path.proofs.Ways.{ways}
 use borrow.Author.Needs.{needs}
+use Rattle.path.proofs.Ways.{ways}
 use Rattle.path.proofs.approx_eq_point.Statement.{statement}
 use Rattle.path.proofs.approx_eq_point.Tie as tie
 
@@ -13,8 +13,5 @@ approx-eq-requires-2 c κs = search needs
 returns : tie.Need-returns
 returns c = search (needs, ways)
 
-returns-2 : tie.Need-returns-2
-returns-2 c = search (needs, ways)
-
 pub approx-eq-point-spec : {M : Type 1} → statement M
-approx-eq-point-spec = tie.close (tie.spec approx-eq-requires approx-eq-requires-2 returns returns-2)
+approx-eq-point-spec = tie.close (tie.spec approx-eq-requires approx-eq-requires-2 returns)

@@ -1,6 +1,6 @@
 -- `path::is_line` meets its contract. Assumes nothing.
-use Rattle.path.proofs.Ways.{ways}
 use borrow.Author.Needs.{needs}
+use Rattle.path.proofs.Ways.{ways}
 use Rattle.path.proofs.is_line.Statement.{statement}
 use Rattle.path.proofs.is_line.Tie as tie
 
@@ -13,9 +13,5 @@ approx-eq-point-requires-2 c κs = search needs
 returns : tie.Need-returns
 returns c = search (needs, ways)
 
-returns-2 : tie.Need-returns-2
-returns-2 c = search (needs, ways)
-
 pub is-line-spec : {M : Type 1} → statement M
-is-line-spec =
-    tie.close (tie.spec approx-eq-point-requires approx-eq-point-requires-2 returns returns-2)
+is-line-spec = tie.close (tie.spec approx-eq-point-requires approx-eq-point-requires-2 returns)

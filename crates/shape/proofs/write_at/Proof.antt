@@ -29,7 +29,7 @@ same-length-2 : tie.Need-same-length-2
 same-length-2 c = search needs
 
 returns : tie.Need-returns
-returns c = search (needs, arms)
+returns c = (search (needs, arms), (search (needs, arms), (search (needs, arms), search (needs, arms))))
 
 same-length-3 : tie.Need-same-length-3
 same-length-3 c = search needs
@@ -38,7 +38,7 @@ same-length-4 : tie.Need-same-length-4
 same-length-4 c = search needs
 
 returns-2 : tie.Need-returns-2
-returns-2 c = search (needs, arms)
+returns-2 c = (search (needs, arms), (search (needs, arms), (search (needs, arms), search (needs, arms))))
 
 same-length-5 : tie.Need-same-length-5
 same-length-5 c = search needs
@@ -47,7 +47,7 @@ same-length-6 : tie.Need-same-length-6
 same-length-6 c = search needs
 
 returns-3 : tie.Need-returns-3
-returns-3 c = search (needs, arms)
+returns-3 c = (search (needs, arms), (search (needs, arms), (search (needs, arms), search (needs, arms))))
 
 pub write-at-spec : {M : Type 1} → statement M
 write-at-spec =

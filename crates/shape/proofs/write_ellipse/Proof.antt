@@ -59,6 +59,9 @@ loop-less c = search needs
 loop-again : tie.Need-loop-again Inv-loop μ-loop
 loop-again c = search (needs, ellipse-loops)
 
+add-t25 : tie.Need-add-t25 Inv-loop μ-loop
+add-t25 c = search (needs, ellipse-loops)
+
 same-length : tie.Need-same-length Inv-loop μ-loop
 same-length c = search needs
 
@@ -66,7 +69,7 @@ same-length-2 : tie.Need-same-length-2 Inv-loop μ-loop
 same-length-2 c = search needs
 
 returns : tie.Need-returns Inv-loop μ-loop
-returns c = search (needs, ellipse-loops)
+returns c = (search (needs, ellipse-loops), (search (needs, ellipse-loops), (search (needs, ellipse-loops), search (needs, ellipse-loops))))
 
 pub write-ellipse-spec : {M : Type 1} → statement M
 write-ellipse-spec =
@@ -88,6 +91,7 @@ write-ellipse-spec =
     add-k
     loop-less
     loop-again
+    add-t25
     same-length
     same-length-2
     returns)

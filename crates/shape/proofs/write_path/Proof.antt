@@ -47,6 +47,9 @@ loop-less c = search needs
 loop-again : tie.Need-loop-again Inv-loop μ-loop
 loop-again c = search (needs, path-loops)
 
+add-t18 : tie.Need-add-t18 Inv-loop μ-loop
+add-t18 c = search (needs, path-loops)
+
 same-length : tie.Need-same-length Inv-loop μ-loop
 same-length c = search needs
 
@@ -54,7 +57,7 @@ same-length-2 : tie.Need-same-length-2 Inv-loop μ-loop
 same-length-2 c = search needs
 
 returns : tie.Need-returns Inv-loop μ-loop
-returns c = search (needs, path-loops)
+returns c = (search (needs, path-loops), (search (needs, path-loops), (search (needs, path-loops), search (needs, path-loops))))
 
 pub write-path-spec : {M : Type 1} → statement M
 write-path-spec =
@@ -72,6 +75,7 @@ write-path-spec =
     add-k
     loop-less
     loop-again
+    add-t18
     same-length
     same-length-2
     returns)

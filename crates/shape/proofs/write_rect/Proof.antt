@@ -57,6 +57,9 @@ loop-less c = search needs
 loop-again : tie.Need-loop-again Inv-loop μ-loop Inv-loop2 μ-loop2
 loop-again c = search (needs, rect-loops)
 
+add-t19 : tie.Need-add-t19 Inv-loop μ-loop Inv-loop2 μ-loop2
+add-t19 c = search (needs, rect-loops)
+
 same-length : tie.Need-same-length Inv-loop μ-loop Inv-loop2 μ-loop2
 same-length c = search needs
 
@@ -64,7 +67,7 @@ same-length-2 : tie.Need-same-length-2 Inv-loop μ-loop Inv-loop2 μ-loop2
 same-length-2 c = search needs
 
 returns : tie.Need-returns Inv-loop μ-loop Inv-loop2 μ-loop2
-returns c = search (needs, rect-loops)
+returns c = (search (needs, rect-loops), (search (needs, rect-loops), (search (needs, rect-loops), search (needs, rect-loops))))
 
 loop2-holds : tie.Need-loop2-holds Inv-loop μ-loop Inv-loop2 μ-loop2
 loop2-holds c = search (needs, rect-loops)
@@ -93,6 +96,9 @@ loop2-less c = search needs
 loop2-again : tie.Need-loop2-again Inv-loop μ-loop Inv-loop2 μ-loop2
 loop2-again c = search (needs, rect-loops)
 
+add-t26 : tie.Need-add-t26 Inv-loop μ-loop Inv-loop2 μ-loop2
+add-t26 c = search (needs, rect-loops)
+
 same-length-3 : tie.Need-same-length-3 Inv-loop μ-loop Inv-loop2 μ-loop2
 same-length-3 c = search needs
 
@@ -100,7 +106,7 @@ same-length-4 : tie.Need-same-length-4 Inv-loop μ-loop Inv-loop2 μ-loop2
 same-length-4 c = search needs
 
 returns-2 : tie.Need-returns-2 Inv-loop μ-loop Inv-loop2 μ-loop2
-returns-2 c = search (needs, rect-loops)
+returns-2 c = (search (needs, rect-loops), (search (needs, rect-loops), (search (needs, rect-loops), search (needs, rect-loops))))
 
 pub write-rect-spec : {M : Type 1} → statement M
 write-rect-spec =
@@ -121,6 +127,7 @@ write-rect-spec =
     add-k
     loop-less
     loop-again
+    add-t19
     same-length
     same-length-2
     returns
@@ -133,6 +140,7 @@ write-rect-spec =
     add-k-2
     loop2-less
     loop2-again
+    add-t26
     same-length-3
     same-length-4
     returns-2)

@@ -1,2 +1,0 @@
--- The tray estimate of document 01.
-pub mod Estimate
