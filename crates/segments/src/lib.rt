@@ -1,5 +1,5 @@
 // How many numbers the path of a vertex list has: two for each line and six for each cubic, counted without writing it.
-// No branch hangs on which of the two a segment is, so that a list of both kinds is counted as fast as any.
+// No branch hangs on which of the two a segment is, so a list of both kinds is counted as fast as one of lines.
 use path::BezierVertex;
 ghost use mathlib.Core.Path.{_≡_};
 ghost use mathlib.Core.Bool.{_&&_};
@@ -77,14 +77,13 @@ pub fn path_numbers(closed: u32, vertices: &[f32], count: usize) -> usize
     if count == 1 {
         return 4;
     }
+    let lines = lines_between(vertices, count) as usize;
     if closed == 1 {
-        let lines = lines_between(vertices, count) as usize;
         let back = line_count(
             path::vertex_at(vertices, count - 1),
             path::vertex_at(vertices, 0),
         ) as usize;
         return 6 * count + 2 - 4 * (lines + back);
     }
-    let lines = lines_between(vertices, count) as usize;
     6 * count - 4 - 4 * lines
 }

@@ -1,4 +1,4 @@
-// A drawing of any kind: its commands counted and written to two buffers, a command at a time.
+// A drawing of any kind: what it needs of two buffers, and its commands written to them, one at a time.
 use command::Counts;
 use command::Refusal;
 use command::Room;
@@ -25,7 +25,8 @@ pub enum Shape {
     Ellipse,
 }
 
-// What a path needs: each of its segments may be a line or a cubic, so all are looked at.
+// What a path needs: each of its segments may be a line or a cubic, so all are looked at. A vertex list is counted by this
+// too; with two callers it is not inlined, and `need_of`, which then is small, is.
 pub fn path_need(closed: u32, count: usize, list: &[f32]) -> Room
     requires { ⌜ Fit (Path closed count) (now list) ⌝ }
     ensures { λ r. ⌜ pairOf r ≡ roomOf (shapeCommands (Path closed count) (now (list .entry))) ⌝ }

@@ -46,12 +46,6 @@ sub-result c = search (needs, totals)
 returns-2 : tie.Need-returns-2
 returns-2 c = search (needs, totals)
 
-lines-between-requires-2 : tie.Need-lines-between-requires-2
-lines-between-requires-2 c κs = search needs
-
-cast-lines-2 : tie.Need-cast-lines-2
-cast-lines-2 c = search needs
-
 mul-result-3 : tie.Need-mul-result-3
 mul-result-3 c = search needs
 
@@ -85,8 +79,6 @@ path-numbers-spec =
     mul-result-2
     sub-result
     returns-2
-    lines-between-requires-2
-    cast-lines-2
     mul-result-3
     sub-result-2
     mul-result-4
