@@ -382,8 +382,10 @@ module _ (row : List ℕ) (items : List Float) (u : Verdict) (u-is : verdictOf u
     item-drawn r is = ap (λ (x : ItemRow). drawSource x items) is ∙ sym (behind-passed (itemChecks row) u u-is e (drawSource (itemRow row 0) items))
 
     pub item-filled : (r : ItemRow) (codes codes' : List ℕ) (numbers numbers' : List Float) (n : Counts) → r ≡ itemRow row 0
-        → FilledBoth (fitted (inBuffers (length codes) (length numbers)) (drawSource r items)) (countsNumber n) (firstCount n) (secondCount n) codes codes' numbers numbers'
-        → FilledBoth (fitted (inBuffers (length codes) (length numbers)) (drawItem row items)) (countsNumber n) (firstCount n) (secondCount n) codes codes' numbers numbers'
+        → FilledBoth (fitted (inBuffers (length codes) (length numbers)) (drawSource r items)) (countsNumber n) (firstCount n) (secondCount n)
+        codes codes' numbers numbers'
+        → FilledBoth (fitted (inBuffers (length codes) (length numbers)) (drawItem row items)) (countsNumber n) (firstCount n) (secondCount n)
+        codes codes' numbers numbers'
     item-filled r codes codes' numbers numbers' n is f = rw (← (item-drawn r is)) f
 
 pub ruleset item-drawings = (item-refused, row-whole, item-filled)

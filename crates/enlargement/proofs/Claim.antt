@@ -92,7 +92,8 @@ module _ (k : ℕ) (K : k ≤ 6) (p p' : Plate) (G : PlateOnGrid p) (E : Enlarge
   answered = record {
     path-drawn = path-drawn;
     item-drawn = item-drawn;
-    path-need = enlarged-need k (drawPath (p .lent .closed) (p .vertices) (p .lent .count)) (drawPath (p' .lent .closed) (p' .vertices) (p' .lent .count)) path-drawn;
+    path-need =
+        enlarged-need k (drawPath (p .lent .closed) (p .vertices) (p .lent .count)) (drawPath (p' .lent .closed) (p' .vertices) (p' .lent .count)) path-drawn;
     item-need = enlarged-need k (drawItem (p .lent .row) (p .items)) (drawItem (p' .lent .row) (p' .items)) item-drawn;
     merge-decision = ap (λ (l : Lent). decision (l .rows) (l .rowCount)) (E .lent);
     merge-drawn = merge-drawn;

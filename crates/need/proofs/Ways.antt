@@ -59,8 +59,8 @@ module _ (row : ItemRow) (items : List Float) (u : Verdict) (u-is : verdictOf u 
   unfolding drawSource
   source-turned r e = rw (behind-refused (sourceChecks row items) u u-is r e (shapeDrawn row (drop (row .place) items)))
 
-  pub source-counted : u ≡ Passed → (k : Checked) (r : Counts) → outcomeOf k items ≡ shapeDrawn row (drop (row .place) items) → countsOf r ≡ needOf (outcomeOf k items)
-      → countsOf r ≡ needOf (drawSource row items)
+  pub source-counted : u ≡ Passed → (k : Checked) (r : Counts) → outcomeOf k items ≡ shapeDrawn row (drop (row .place) items)
+      → countsOf r ≡ needOf (outcomeOf k items) → countsOf r ≡ needOf (drawSource row items)
   source-counted e k r is f = f ∙ ap needOf (source-made row items u u-is e k is)
 
 pub ruleset source-needs = (source-turned, source-counted, behind-checks)
@@ -71,12 +71,13 @@ module _ (row : List ℕ) (items : List Float) (u : Verdict) (u-is : verdictOf u
   unfolding drawItem
   item-turned r e = rw (behind-refused (itemChecks row) u u-is r e (drawSource (itemRow row 0) items))
 
-  module _ (e : u ≡ Passed) (first : ItemRow) (is : first ≡ itemRow row 0) (w : Verdict) (w-is : verdictOf w ≡ checked (sourceChecks first items) (accepted tt)) where
+  module _ (e : u ≡ Passed) (first : ItemRow) (is : first ≡ itemRow row 0) (w : Verdict)
+      (w-is : verdictOf w ≡ checked (sourceChecks first items) (accepted tt)) where
     pub item-source-turned : (r : Refusal) → w ≡ Refused r → refused r ≡ needOf (drawItem row items)
     item-source-turned r f = source-turned first items w w-is r f ∙ ap needOf (item-drawn row items u u-is e first is)
 
-    pub item-counted : w ≡ Passed → (k : Checked) (r : Counts) → outcomeOf k items ≡ shapeDrawn first (drop (first .place) items) → countsOf r ≡ needOf (outcomeOf k items)
-        → countsOf r ≡ needOf (drawItem row items)
+    pub item-counted : w ≡ Passed → (k : Checked) (r : Counts) → outcomeOf k items ≡ shapeDrawn first (drop (first .place) items)
+        → countsOf r ≡ needOf (outcomeOf k items) → countsOf r ≡ needOf (drawItem row items)
     item-counted f k r made g = source-counted first items w w-is f k r made g ∙ ap needOf (item-drawn row items u u-is e first is)
 
 pub ruleset item-needs = (item-turned, row-whole, item-source-turned, item-counted, behind-checks)

@@ -77,7 +77,8 @@ module _ (v : List Float) (m : ℕ) where
   unfolding bezierPath verticesOf
   open-path = omega (arith, segments-numbers v (suc m))
 
-  pub closed-path : length (numbersOf (bezierPath true (verticesOf (suc (suc m)) v))) + 4 * (linesFrom v 0 (suc m) + lineCount (vertexAt v (suc m)) (vertexAt v 0))
+  pub closed-path : length (numbersOf (bezierPath true (verticesOf (suc (suc m)) v)))
+      + 4 * (linesFrom v 0 (suc m) + lineCount (vertexAt v (suc m)) (vertexAt v 0))
       ≡ 6 * suc (suc m) + 2
   unfolding bezierPath verticesOf
   closed-path =

@@ -85,12 +85,16 @@ module _ (v : List Float) (count : ℕ) (s : Sound v count) where
     four-inside h = omega (arith, s .inside)
 
     pub passed-four : (t : Bool)
-        → t ≡ ((leaves (vertexAt v j) && leaves (vertexAt v (j + 1))) && (leaves (vertexAt v (j + 2)) && leaves (vertexAt v (j + 3)))) → t ≡ true → j + 4 < count
-        → Passed v count (j + 4)
+        → t ≡ ((leaves (vertexAt v j) && leaves (vertexAt v (j + 1))) && (leaves (vertexAt v (j + 2)) && leaves (vertexAt v (j + 3)))) → t ≡ true
+        → j + 4 < count → Passed v count (j + 4)
     passed-four t is e h =
-        let all = and-eq-true-iff (leaves (vertexAt v j) && leaves (vertexAt v (j + 1))) (leaves (vertexAt v (j + 2)) && leaves (vertexAt v (j + 3))) .0 (sym is ∙ e) in
-        let low = and-eq-true-iff (leaves (vertexAt v j)) (leaves (vertexAt v (j + 1))) .0 (all .0) in
-        let high = and-eq-true-iff (leaves (vertexAt v (j + 2))) (leaves (vertexAt v (j + 3))) .0 (all .1) in
+        let p = leaves (vertexAt v j) in
+        let q = leaves (vertexAt v (j + 1)) in
+        let r = leaves (vertexAt v (j + 2)) in
+        let s = leaves (vertexAt v (j + 3)) in
+        let all = and-eq-true-iff (p && q) (r && s) .0 (sym is ∙ e) in
+        let low = and-eq-true-iff p q .0 (all .0) in
+        let high = and-eq-true-iff r s .0 (all .1) in
         record {
           inside = h;
           same =
@@ -101,8 +105,8 @@ module _ (v : List Float) (count : ℕ) (s : Sound v count) where
       where
         step : (i k : ℕ) → i + 1 ≡ k → i + 1 < count → leaves (vertexAt v i) ≡ true → rest v count i ≡ rest v count k
         step i k e g l =
-            rest-step v count i g ∙ ap (λ (n : ℕ). n + rest v count (i + 1)) (leave-cubic (vertexAt v i) (vertexAt v (i + 1)) l) ∙ zero-add (rest v count (i + 1))
-            ∙ ap (rest v count) e
+            rest-step v count i g ∙ ap (λ (n : ℕ). n + rest v count (i + 1)) (leave-cubic (vertexAt v i) (vertexAt v (i + 1)) l)
+            ∙ zero-add (rest v count (i + 1)) ∙ ap (rest v count) e
 
 pub ruleset passings = (passed-start, place-fits, four-inside, passed-four)
 
@@ -191,7 +195,8 @@ module _ (closed : ℕ) (v : List Float) (count : ℕ) (s : Sound v count) where
     several : 1 < count
     several = omega (arith, s .some)
 
-    module _ (h : closed ≡ 1) (a b : BezierVertex) (back : ℕ) (back-is : back ≡ lineCount a b) (a-is : a ≡ vertexAt v (count - 1)) (b-is : b ≡ vertexAt v 0) where
+    module _ (h : closed ≡ 1) (a b : BezierVertex) (back : ℕ) (back-is : back ≡ lineCount a b) (a-is : a ≡ vertexAt v (count - 1))
+        (b-is : b ≡ vertexAt v 0) where
       closed-total : length (numbersOf (pathCommands closed v count)) + 4 * (lines + back) ≡ 6 * count + 2
       unfolding pathCommands
       closed-total = rw (eq-eqb closed 1 h, lines-are, back-is, a-is, b-is) (closed-numbers v count several)

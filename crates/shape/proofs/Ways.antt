@@ -178,8 +178,8 @@ pub ruleset ellipse-arms = (ellipse-fit, ellipse-six, ellipse-few)
 pub ruleset arms = (path-arms, rect-arms, ellipse-arms, need-is, counts-are, codes-room, numbers-room, codes-place-is, place-is, codes-are, written)
 
 -- ---- is_ample, holds and fits
-pub path-ample : (s : Shape) (v : List Float) (closed count codes numbers : ℕ) → s ≡ Path closed count → Fit s v → leb (count + 2) codes && leb (6 * count + 2) numbers ≡ true
-    → inBuffers codes numbers (shapeCommands s v) ≡ true
+pub path-ample : (s : Shape) (v : List Float) (closed count codes numbers : ℕ) → s ≡ Path closed count → Fit s v
+    → leb (count + 2) codes && leb (6 * count + 2) numbers ≡ true → inBuffers codes numbers (shapeCommands s v) ≡ true
 path-ample s v closed count codes numbers is fit e =
     let most = shape-enough (Path closed count) v (path-fit s v closed count is fit) in
     let held = and-eq-true-iff (leb (count + 2) codes) (leb (6 * count + 2) numbers) .0 e in
