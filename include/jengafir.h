@@ -103,10 +103,11 @@ uint32_t jengafir_merge(const uint32_t *rows, size_t rows_len, size_t row_count,
                         uint8_t *codes, size_t codes_len, float *numbers, size_t numbers_len,
                         size_t *codes_written, size_t *numbers_written);
 
-/* Of the three calls that tell a need: each tells exactly how many codes and numbers the drawing call that it is named
-   beside writes for the same input. So buffers of just these sizes are large enough, and with a place less in either
-   that call gives 11. It reads what that call reads and is refused as that call is, but for 11. No pointer is null, and
-   the two places do not overlap. On a refusal both are 0. */
+/* Of jengafir_tray_need, jengafir_item_need and jengafir_merge_need: each tells exactly how many codes and numbers the
+   drawing call that is named with it writes for the same input. So buffers of just these sizes are large enough, and
+   with a place less in either that call gives 11. It reads what that call reads, and refuses what that call refuses, by
+   the same number, but never gives 11. No pointer is null, and the places of the counts overlap nothing else that is
+   lent. On a refusal both counts are 0. */
 
 /* What jengafir_draw_path writes. Refuses, by the first of these that holds: 1, 2, 4 for `closed`, 12, 3. */
 uint32_t jengafir_tray_need(uint32_t closed, const float *vertices, size_t vertices_len, size_t count,
@@ -122,9 +123,9 @@ uint32_t jengafir_merge_need(const uint32_t *rows, size_t rows_len, size_t row_c
                              size_t items_len, size_t *codes_needed, size_t *numbers_needed);
 
 /* Sizes that are always enough, for arrays that are fixed when a program is built: for a path of n vertices, open or
-   closed, for a rectangle, and for an ellipse. No drawing writes more; a closed path of n cubics, a rectangle with round
-   corners and every ellipse write just as much, but a single vertex less. For a merge the sizes of its sources added up
-   are enough. */
+   closed, for a rectangle, and for an ellipse. No drawing of these writes more; a closed path of two cubics or more, a
+   rectangle with round corners and every ellipse write just as much. For a merge the sizes of its sources added up are
+   enough. */
 #define JENGAFIR_PATH_CODES(n) ((n) + 2)
 #define JENGAFIR_PATH_NUMBERS(n) (6 * (n) + 2)
 #define JENGAFIR_RECTANGLE_CODES 10

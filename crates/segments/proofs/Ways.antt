@@ -175,12 +175,28 @@ closed-numbers v (suc (suc m)) h =
     let e : suc (suc m) - 1 ≡ suc m = omega arith in
     rw e (closed-path v m)
 
-module _ (v : List Float) (count : ℕ) (s : Sound v count) (more : count ≡ 1 → ⊥) (lines : ℕ) (lines-are : lines ≡ linesFrom v 0 (count - 1)) where
+-- there are no more lines than segments
+lines-most : (v : List Float) (j n : ℕ) → linesFrom v j n ≤ n
+unfolding linesFrom
+lines-most v j zero = zero-le
+lines-most v j (suc n) = omega (arith, count-few (vertexAt v j) (vertexAt v (j + 1)), lines-most v (j + 1) n)
+
+module _ (v : List Float) (count : ℕ) (s : Sound v count) (lines : ℕ) (lines-are : lines ≡ linesFrom v 0 (count - 1)) where
   pub open-less : 4 * lines ≤ 6 * count - 4
-  open-less = omega (arith, s .some, open-numbers v count (omega (arith, s .some)))
+  open-less = omega (arith, s .some, lines-most v 0 (count - 1))
 
   pub open-four-fit : Fits w64 (4 * lines)
   open-four-fit = record { fits = omega (arith, s .few, open-less) }
+
+  module _ (a b : BezierVertex) (back : ℕ) (back-is : back ≡ lineCount a b) where
+    pub closed-less : 4 * (lines + back) ≤ 6 * count + 2
+    closed-less = omega (arith, open-less, count-few a b)
+
+    pub lines-fit : Fits w64 (lines + back)
+    lines-fit = record { fits = omega (arith, s .few, closed-less) }
+
+    pub four-fit : Fits w64 (4 * (lines + back))
+    four-fit = record { fits = omega (arith, s .few, closed-less) }
 
 module _ (closed : ℕ) (v : List Float) (count : ℕ) (s : Sound v count) where
   pub one-vertex : count ≡ 1 → 4 ≡ length (numbersOf (pathCommands closed v count))
@@ -200,15 +216,6 @@ module _ (closed : ℕ) (v : List Float) (count : ℕ) (s : Sound v count) where
       closed-total : length (numbersOf (pathCommands closed v count)) + 4 * (lines + back) ≡ 6 * count + 2
       unfolding pathCommands
       closed-total = rw (eq-eqb closed 1 h, lines-are, back-is, a-is, b-is) (closed-numbers v count several)
-
-      pub lines-fit : Fits w64 (lines + back)
-      lines-fit = record { fits = omega (arith, s .few, closed-total) }
-
-      pub four-fit : Fits w64 (4 * (lines + back))
-      four-fit = record { fits = omega (arith, s .few, closed-total) }
-
-      pub closed-less : 4 * (lines + back) ≤ 6 * count + 2
-      closed-less = omega (arith, closed-total)
 
       pub closed-is : 6 * count + 2 - 4 * (lines + back) ≡ length (numbersOf (pathCommands closed v count))
       closed-is = omega (arith, closed-total)
