@@ -1,7 +1,7 @@
 /* A bag panel of a coin sorter, written to standard output as an SVG page. Each bag has a frame with a mouth, square or
-   round, a ring that shows how full it is, and a stack of coins. Of each drawing the panel first asks what it needs, and
-   then draws it into buffers of just that size. The panel is drawn at size 1, and from enlarged input at size 2. The
-   program compares the two and fails where the second is not the first, exactly enlarged.
+   round, a ring that shows how full it is, and a stack of coins. Of each drawing the panel first asks what it needs,
+   and then draws it into buffers of just that size. The panel is drawn at size 1, and from enlarged input at size 2.
+   The program compares the two and fails where the second is not the first, exactly enlarged.
 
        gcc -std=c99 -Iinclude examples/panel.c target/staticlib/libjengafir.a -o panel && ./panel >panel.svg
 
@@ -50,6 +50,7 @@ static const float items[] = {
 #define OUTER_PLACE 0
 #define MOUTH_PLACE 5
 #define RING_PLACE 10
+#define RING_VERTICES 4
 #define COIN_PLACE 34
 
 /* A frame is its rectangle and its mouth, merged. */
@@ -63,7 +64,6 @@ enum { SQUARE, ROUND, MOUTHS };
         {JENGAFIR_FL, 0, 0, 0, 0, 0},           \
     }
 static const uint32_t frame_rows[MOUTHS][FRAME_ROWS][6] = {FRAME(JENGAFIR_RC), FRAME(JENGAFIR_EL)};
-static const uint32_t ring_row[6] = {JENGAFIR_SH, 0, 0, 1, RING_PLACE, 4};
 static const uint32_t coin_row[6] = {JENGAFIR_EL, 0, 0, 0, COIN_PLACE, 0};
 
 /* The form of a bag's mouth, how many coins it holds, from where its ring is shown, in degrees from the right, and the
@@ -161,15 +161,31 @@ static Path draw_frame(const uint32_t rows[FRAME_ROWS][6], const float *enlarged
     return path;
 }
 
-static Path draw_row(const uint32_t row[6], const float *enlarged)
+static Path draw_coin(const float *enlarged)
 {
     size_t codes_needed, numbers_needed;
-    uint32_t refusal = jengafir_item_need(row, 6, enlarged, ITEMS, &codes_needed, &numbers_needed);
+    uint32_t refusal = jengafir_item_need(coin_row, 6, enlarged, ITEMS, &codes_needed, &numbers_needed);
     must_accept("jengafir_item_need", refusal);
     Path path = buffers(codes_needed, numbers_needed);
-    refusal = jengafir_draw_item(row, 6, enlarged, ITEMS, path.codes, path.codes_len, path.numbers, path.numbers_len,
-                                 &path.code_count, &path.number_count);
+    refusal = jengafir_draw_item(coin_row, 6, enlarged, ITEMS, path.codes, path.codes_len, path.numbers,
+                                 path.numbers_len, &path.code_count, &path.number_count);
     must_accept("jengafir_draw_item", refusal);
+    measure(&path);
+    return path;
+}
+
+/* The ring is drawn from its vertices, with no row about them. */
+static Path draw_ring(const float *enlarged)
+{
+    const float *vertices = enlarged + RING_PLACE;
+    size_t codes_needed, numbers_needed;
+    uint32_t refusal =
+        jengafir_tray_need(1, vertices, 6 * RING_VERTICES, RING_VERTICES, &codes_needed, &numbers_needed);
+    must_accept("jengafir_tray_need", refusal);
+    Path path = buffers(codes_needed, numbers_needed);
+    refusal = jengafir_draw_path(1, vertices, 6 * RING_VERTICES, RING_VERTICES, path.codes, path.codes_len,
+                                 path.numbers, path.numbers_len, &path.code_count, &path.number_count);
+    must_accept("jengafir_draw_path", refusal);
     measure(&path);
     return path;
 }
@@ -229,8 +245,8 @@ static void draw_panel(int size, Panel *panel)
     panel->size = size;
     for (size_t i = 0; i < MOUTHS; i++)
         panel->frames[i] = draw_frame(frame_rows[i], enlarged);
-    panel->ring = draw_row(ring_row, enlarged);
-    panel->coin = draw_row(coin_row, enlarged);
+    panel->ring = draw_ring(enlarged);
+    panel->coin = draw_coin(enlarged);
     find_start(&panel->ring, panel->ring_start);
     for (size_t i = 0; i < BAGS; i++) {
         trim(&bags[i], &panel->ring, &panel->fills[i]);

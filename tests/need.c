@@ -197,6 +197,33 @@ static void test_longest_lists(void)
     refused("a huge count", list(0, lines, length, SIZE_MAX / 2 + 2), JENGAFIR_TOO_MANY);
 }
 
+#define MOST_CUBICS 12
+#define MOST_LINES 6
+
+/* A list whose first segments are cubics, by one number of the tangent at either end, and whose others are lines. */
+static void write_run(float *vertices, size_t cubics, size_t lines, size_t place)
+{
+    memset(vertices, 0, 6 * (cubics + lines + 1) * sizeof *vertices);
+    for (size_t i = 0; i <= cubics + lines; i++)
+        vertices[6 * i] = (float)i;
+    for (size_t i = 0; i < cubics; i++)
+        vertices[6 * (place < 4 ? i + 1 : i) + place] = 0.5f;
+}
+
+/* Cubics that a list begins with are passed over some at a time, so every number of them is tried. */
+static void test_runs(void)
+{
+    static float vertices[6 * (MOST_CUBICS + MOST_LINES + 1)];
+    for (size_t cubics = 0; cubics <= MOST_CUBICS; cubics++)
+        for (size_t lines = cubics == 0; lines <= MOST_LINES; lines++)
+            for (size_t place = 2; place < 6; place++) {
+                size_t count = cubics + lines + 1, m = 2 + 6 * cubics + 2 * lines;
+                write_run(vertices, cubics, lines, place);
+                needs("a run of cubics, open", list(0, vertices, 6 * count, count), count, m);
+                needs("a run of cubics, closed", list(1, vertices, 6 * count, count), count + 2, m + 2);
+            }
+}
+
 /* A closed triangle with one number replaced. */
 static void refused_number(const char *call, size_t place, float x)
 {
@@ -667,6 +694,7 @@ int main(void)
 {
     test_lists();
     test_longest_lists();
+    test_runs();
     test_list_refusals();
     test_rows();
     test_row_refusals();

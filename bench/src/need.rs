@@ -1,5 +1,5 @@
-//! Times telling the need of a drawing, through the C interface, on what the drawings are timed on. Rust has no such
-//! function.
+//! Times telling the need of a drawing, through the C interface, on some of the inputs on which drawing is timed. Rust
+//! has no such function.
 
 use crate::draw::{drawings, Drawing, A_VERTEX, KINDS, VERTICES};
 use crate::interface::{jengafir_item_need, jengafir_merge_need, jengafir_tray_need};

@@ -14,7 +14,8 @@ use source::Path;
 /// The number of the refusal, or 0, and how many codes and numbers are needed.
 type Need = (u32, [usize; 2]);
 
-/// A list and two rows for so many of the comparisons that are asked for; a merge for each, since most are refused.
+/// Of the count that is asked for, one in so many is a list, a row and an ellipse. Merges have all of it, since most are
+/// refused.
 const ONE_IN: usize = 3;
 
 pub fn compare(random: &mut Random, count: usize, report: &mut Report) {

@@ -11,7 +11,7 @@ use Rattle.ieee.proofs.Bounds.{all-within→bounded, all-bounded→within}
 use Rattle.command.specs.declared.PathCommand.{PathCommand}
 use Rattle.command.specs.declared.PathCommand.the-variants.{Close}
 use Rattle.command.specs.Commands.{coordinatesOf, numbersOf, commandLimit}
-use Rattle.command.proofs.Passes.{numbers-append}
+use Rattle.command.proofs.Lists.{numbers-append}
 use Rattle.command.proofs.Enlarged.{limit-value}
 
 pub bounded-append : (n : ℕ) (cs ds : List PathCommand) → AllBounded n (numbersOf cs) → AllBounded n (numbersOf ds) → AllBounded n (numbersOf (cs ++ ds))

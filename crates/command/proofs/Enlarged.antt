@@ -20,10 +20,10 @@ use Rattle.command.specs.declared.PathCommand.the-variants.{Move, Line, 
 use Rattle.command.specs.declared.Refusal.{Refusal}
 use Rattle.command.specs.Commands.{codeOf, coordinatesOf, codesOf, numbersOf, commandLimit}
 use Rattle.command.specs.Outcomes.{Outcome, refused, accepted, Check, checked, AllPass}
-use Rattle.command.specs.Buffers.{roomOf, needOf}
+use Rattle.command.specs.Buffers.{sizeOf, needOf}
 use Rattle.command.specs.Enlarged.{enlarged, AllOn, CommandTwin, Twins, enlargedDrawing, DrawingTwin}
 use Rattle.command.proofs.Outcomes.{checks-relate}
-use Rattle.command.proofs.Passes.{numbers-append}
+use Rattle.command.proofs.Lists.{numbers-append}
 
 -- ---- numbers on a grid
 pub all-weaken : (q b q' b' : ℕ) (xs : List Float) → q ≤ q' → b ≤ b' → AllOn q b xs → AllOn q' b' xs
@@ -59,15 +59,15 @@ enlarged-numbers k (c ∷ cs) =
     ap₂ (λ (xs ys : List Float). xs ++ ys) (enlarged-coordinates k c) (enlarged-numbers k cs) ∙ sym (map-append (scale k) (coordinatesOf c) (numbersOf cs))
 
 -- ---- so enlarging changes no need
-pub enlarged-room : (k : ℕ) (cs : List PathCommand) → roomOf (map (enlarged k) cs) ≡ roomOf cs
-enlarged-room k cs = λ i. (length (enlarged-codes k cs i), (ap length (enlarged-numbers k cs) ∙ length-map (numbersOf cs) (scale k)) i)
+pub enlarged-size : (k : ℕ) (cs : List PathCommand) → sizeOf (map (enlarged k) cs) ≡ sizeOf cs
+enlarged-size k cs = λ i. (length (enlarged-codes k cs i), (ap length (enlarged-numbers k cs) ∙ length-map (numbersOf cs) (scale k)) i)
 
 pub enlarged-need : (k : ℕ) (o o' : Outcome (List PathCommand)) → o' ≡ enlargedDrawing k o → needOf o' ≡ needOf o
 enlarged-need k o o' e = ap needOf e ∙ go o
   where
     go : (p : Outcome (List PathCommand)) → needOf (enlargedDrawing k p) ≡ needOf p
     go (refused r) = refl
-    go (accepted cs) = ap accepted (enlarged-room k cs)
+    go (accepted cs) = ap accepted (enlarged-size k cs)
 
 -- ---- the limit, which no number of a grid up to 2 ^ 22 passes
 pub limit-value : HasValue commandLimit false 4194304 1

@@ -2,7 +2,7 @@
 pub mod Outcomes
 pub mod Verdicts
 pub mod Buffers
-pub mod Passes
+pub mod Lists
 pub mod Writes
 pub mod Enlarged
 pub mod Bounds

@@ -14,7 +14,7 @@ use Rattle.command.specs.declared.PathCommand.{PathCommand}
 use Rattle.command.specs.declared.PathCommand.the-variants.{Close}
 use Rattle.command.specs.Commands.{codeOf, coordinatesOf, codesOf, numbersOf}
 use Rattle.command.proofs.Buffers.{sets-append}
-use Rattle.command.proofs.Passes.{at-place, split, rest, codes-length}
+use Rattle.command.proofs.Lists.{at-place, split, rest, codes-length}
 
 -- What is still to do, done on the buffers as they are, gives what the whole gives on the buffers as they were.
 pub record WritingAt (cs : List PathCommand) (i j : ℕ) (codes₀ : List ℕ) (numbers₀ : List Float) (codes : List ℕ) (numbers : List Float) (k at : ℕ) : Type 0 where

@@ -40,8 +40,8 @@ pub enum Counts {
     Of(usize, usize),
 }
 
-// So many codes and so many numbers: what commands need of two buffers, or the places after what is written there.
-pub struct Room {
+// So many codes and so many numbers: what a shape needs of two buffers, or how much of both is filled.
+pub struct Size {
     pub codes: usize,
     pub numbers: usize,
 }
@@ -109,19 +109,6 @@ pub fn code(command: PathCommand) -> u8
         PathCommand::Line(_, _) => 1,
         PathCommand::Cubic(_, _, _, _, _, _) => 2,
         PathCommand::Close => 3,
-        PathCommand::Quad(_, _, _, _) => 4,
-    }
-}
-
-// How many numbers a command has.
-pub fn size(command: PathCommand) -> usize
-    ensures { λ r. ⌜ r ≡ length (coordinatesOf command) ⌝ }
-{
-    match command {
-        PathCommand::Move(_, _) => 2,
-        PathCommand::Line(_, _) => 2,
-        PathCommand::Cubic(_, _, _, _, _, _) => 6,
-        PathCommand::Close => 0,
         PathCommand::Quad(_, _, _, _) => 4,
     }
 }

@@ -15,7 +15,7 @@ use Rattle.command.specs.declared.PathCommand.{PathCommand}
 use Rattle.command.specs.Commands.{numbersOf}
 use Rattle.command.specs.Outcomes.{Outcome, refused, accepted, mapped, listOf, AllPass}
 use Rattle.command.proofs.Outcomes.{refused-accepted, checks-passed}
-use Rattle.command.proofs.Passes.{numbers-few}
+use Rattle.command.proofs.Lists.{numbers-few}
 use Rattle.path.specs.Path.{pathCommands}
 use Rattle.path.proofs.Paths.{pathCommands-few}
 use Rattle.shape.specs.declared.Shape.{Shape}

@@ -8,7 +8,7 @@ use Rattle.ieee.specs.Operators.{_⊕_, _⊖_, _⊗_}
 use Rattle.ieee.specs.Sign.{abs}
 use Rattle.command.specs.declared.PathCommand.the-variants.{Cubic, Close}
 use Rattle.command.specs.Commands.{numbersOf}
-use Rattle.command.proofs.Passes.{at-known, closes}
+use Rattle.command.proofs.Lists.{at-known, closes}
 use Rattle.rect.specs.declared.Bounds.{Bounds}
 use Rattle.rect.specs.Bounds.{half}
 use Rattle.rect.specs.Rect.{tangentOf}

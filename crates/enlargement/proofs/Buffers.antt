@@ -13,7 +13,7 @@ use Rattle.command.specs.Commands.{numbersOf}
 use Rattle.command.specs.Outcomes.{Outcome, refused, accepted, mapped}
 use Rattle.command.specs.Buffers.{fitted, inBuffer, inBuffers}
 use Rattle.command.specs.Enlarged.{enlarged}
-use Rattle.command.proofs.Enlarged.{enlarged-codes, enlarged-numbers, enlarged-room}
+use Rattle.command.proofs.Enlarged.{enlarged-codes, enlarged-numbers, enlarged-size}
 use Rattle.copies.specs.Calls.{orderAnswer}
 use Rattle.copies.specs.Enlarged.{movedNumbers}
 use Rattle.enlargement.specs.Plates.{Plate}
@@ -59,11 +59,11 @@ same-lines k (accepted cs) = record {
   numbers-multiplied = record { number-same = refl; count-same = ap length (enlarged-numbers k cs) ∙ length-map (numbersOf cs) (scale k); list-is = enlarged-numbers k cs };
 }
 
-room-same : (k : ℕ) (s : ℕ × ℕ) (cs : List PathCommand) → inBuffers (s .0) (s .1) (map (enlarged k) cs) ≡ inBuffers (s .0) (s .1) cs
-room-same k s cs = ap (λ (n : ℕ × ℕ). leb (n .0) (s .0) && leb (n .1) (s .1)) (enlarged-room k cs)
+size-same : (k : ℕ) (s : ℕ × ℕ) (cs : List PathCommand) → inBuffers (s .0) (s .1) (map (enlarged k) cs) ≡ inBuffers (s .0) (s .1) cs
+size-same k s cs = ap (λ (n : ℕ × ℕ). leb (n .0) (s .0) && leb (n .1) (s .1)) (enlarged-size k cs)
 
 drawn-alike : (k : ℕ) (o o' : Outcome (List PathCommand)) → o' ≡ mapped (map (enlarged k)) o → DrawnAlike k o o'
-drawn-alike k o o' e = fitted-alike (λ (s : ℕ × ℕ). inBuffers (s .0) (s .1)) (SameLines k) (map (enlarged k)) (room-same k) (same-lines k) o o' e
+drawn-alike k o o' e = fitted-alike (λ (s : ℕ × ℕ). inBuffers (s .0) (s .1)) (SameLines k) (map (enlarged k)) (size-same k) (same-lines k) o o' e
 
 -- ---- one buffer
 module _ {A : Type 0} (f : List A → List A) (none : [] ≡ f []) (long : (xs : List A) → length (f xs) ≡ length xs) where

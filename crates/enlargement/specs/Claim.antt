@@ -2,7 +2,7 @@
 -- `AnsweredAlike` has a field for each call:
 --
 --   drawing                     the same refusal, or the same codes and every coordinate multiplied
---   tray need                   the same refusal, or the same codes and numbers needed: of a list, of a row, of a merge
+--   needs                       the same refusal, or the same codes and numbers: of a list, of a row, of a merge
 --   merge decision              the same: a refusal, or which rows are joined
 --   merge                       as drawing
 --   length                      the same refusal, or the length multiplied

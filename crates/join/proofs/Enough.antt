@@ -6,7 +6,7 @@ use native.Mathlib.Omega.{arith}
 use lib.Ieee.{Float}
 use Rattle.command.specs.declared.PathCommand.{PathCommand}
 use Rattle.command.specs.Outcomes.{Outcome, refused, accepted, valueOr}
-use Rattle.command.specs.Buffers.{roomOf, needOf, Within}
+use Rattle.command.specs.Buffers.{sizeOf, needOf, Within}
 use Rattle.command.proofs.Outcomes.{refused-accepted}
 use Rattle.item.specs.declared.ItemRow.{ItemRow}
 use Rattle.item.specs.Rows.{itemRow}
@@ -29,8 +29,8 @@ unfolding followedBy needAfter
 followed-within (refused q) p r s need f g e = refused-accepted q need e
 followed-within (accepted cs) (refused q) r s need f g e = refused-accepted q need e
 followed-within (accepted cs) (accepted ds) r s need f g e =
-    let n = roomOf cs in
-    let m = roomOf ds in
+    let n = sizeOf cs in
+    let m = sizeOf ds in
     let sum = need-room (accepted cs) (accepted ds) (n .0) (n .1) refl in
     rw (← ap (valueOr need) (sym sum ∙ e)) (both-within n m r s (f n refl) (g m refl))
 

@@ -9,7 +9,7 @@ use lib.ListN.{length, getD}
 use Rattle.command.specs.declared.PathCommand.{PathCommand}
 use Rattle.command.specs.Commands.{numbersOf}
 use Rattle.command.specs.Outcomes.{Outcome, refused, accepted, andThen, listOf}
-use Rattle.command.proofs.Passes.{numbers-append}
+use Rattle.command.proofs.Lists.{numbers-append}
 use Rattle.item.specs.declared.ItemRow.{ItemRow}
 use Rattle.item.specs.Rows.{itemRow}
 use Rattle.draw.specs.Items.{drawSource}

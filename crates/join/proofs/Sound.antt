@@ -12,7 +12,7 @@ use Rattle.command.specs.declared.PathCommand.{PathCommand}
 use Rattle.command.specs.Commands.{numbersOf, commandLimit}
 use Rattle.command.specs.Outcomes.{Outcome, refused, accepted, andThen, listOf}
 use Rattle.command.proofs.Outcomes.{refused-accepted}
-use Rattle.command.proofs.Passes.{numbers-append}
+use Rattle.command.proofs.Lists.{numbers-append}
 use Rattle.item.specs.declared.ItemRow.{ItemRow}
 use Rattle.item.specs.Rows.{itemRow}
 use Rattle.draw.specs.Items.{drawSource}

@@ -20,9 +20,9 @@ use Rattle.command.specs.declared.Counts.the-variants.{Refused, Of}
 use Rattle.command.specs.Commands.{codesOf, numbersOf}
 use Rattle.command.specs.Refusals.{refusalNumber}
 use Rattle.command.specs.Outcomes.{Outcome, refused, accepted, listOf, countsOf, countsNumber, firstCount, secondCount}
-use Rattle.command.specs.Buffers.{inBuffers, fitted, FilledBoth, roomOf, needOf}
+use Rattle.command.specs.Buffers.{inBuffers, fitted, FilledBoth, sizeOf, needOf}
 use Rattle.command.proofs.Outcomes.{refused-accepted}
-use Rattle.command.proofs.Passes.{codes-length, codes-append, numbers-append}
+use Rattle.command.proofs.Lists.{codes-length, codes-append, numbers-append}
 use Rattle.command.proofs.Buffers.{sets-append, fitted-accepted, fitted-refused, filled, both-unfilled}
 use Rattle.shape.specs.declared.Shape.{Shape}
 use Rattle.shape.specs.Shape.{shapeCommands}
@@ -72,7 +72,7 @@ numbersIn o = numbersOf (listOf o)
 need-refused : (o p : Outcome (List PathCommand)) (r : Refusal) → refused r ≡ needOf o → needOf (followedBy o p) ≡ refused r
 unfolding followedBy
 need-refused (refused q) p r e = sym e
-need-refused (accepted cs) p r e = refused-accepted r (roomOf cs) e
+need-refused (accepted cs) p r e = refused-accepted r (sizeOf cs) e
 
 -- what a need that is told says of the drawing
 need-told : (o : Outcome (List PathCommand)) (c n : ℕ) → countsOf (Of c n) ≡ needOf o → (o ≡ accepted (listOf o)) × (c ≡ length (codesIn o)) × (n ≡ length (numbersIn o))
@@ -399,7 +399,7 @@ module _ (o : Outcome (List PathCommand)) (codes : List ℕ) (numbers : List Flo
     where
       go : (p : Outcome (List PathCommand)) → refused r ≡ needOf p → FilledBoth (fitted fits p) (refusalNumber r) 0 0 codes codes numbers numbers
       go (refused q) f = let x : r ≡ q = cc in rw x (both-unfilled q codes numbers)
-      go (accepted cs) f = refused-accepted r (roomOf cs) f
+      go (accepted cs) f = refused-accepted r (sizeOf cs) f
 
   module _ (c n : ℕ) (e : need ≡ Of c n) where
     told-here : (o ≡ accepted (listOf o)) × (c ≡ length (codesIn o)) × (n ≡ length (numbersIn o))

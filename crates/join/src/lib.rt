@@ -1,7 +1,7 @@
 // The sources of a merge drawn one after another: judged and counted whole, then written.
 use command::Counts;
 use command::Refusal;
-use command::Room;
+use command::Size;
 use draw::Checked;
 use item::ItemRow;
 use merge::Decision;
@@ -59,7 +59,7 @@ fn write_row(
     i: usize,
     numbers: &mut [f32],
     j: usize,
-) -> Room
+) -> Size
     requires { ⌜ isAccepted (drawRow row (now items)) ≡ true ⌝ }
     requires { ⌜ i + length (codesOf (listOf (drawRow row (now items)))) ≤ length (now codes) ⌝ }
     requires { ⌜ j + length (numbersOf (listOf (drawRow row (now items)))) ≤ length (now numbers) ⌝ }
@@ -70,7 +70,7 @@ fn write_row(
 {
     if merge::is_source(row) {
         match draw::shape_of(row, items) {
-            Checked::Fault(_) => Room {
+            Checked::Fault(_) => Size {
                 codes: i,
                 numbers: j,
             },
@@ -79,7 +79,7 @@ fn write_row(
             }
         }
     } else {
-        Room {
+        Size {
             codes: i,
             numbers: j,
         }

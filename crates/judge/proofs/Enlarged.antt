@@ -14,7 +14,7 @@ use Rattle.command.specs.declared.Refusal.the-variants.{TooMany, OutOfBounds}
 use Rattle.command.specs.Commands.{codesOf, numbersOf, commandLimit}
 use Rattle.command.specs.Outcomes.{Outcome, refused, accepted, numberOf, mapped, andThen, listOf, Check, _gives_, checked}
 use Rattle.command.specs.Enlarged.{AllOn, Twins}
-use Rattle.command.proofs.Passes.{codes-length}
+use Rattle.command.proofs.Lists.{codes-length}
 use Rattle.command.proofs.Enlarged.{grid-within, twins-codes, twins-numbers, twins-length, twins-grid}
 use Rattle.reader.specs.Read.{sizeOfCode}
 use Rattle.judge.specs.Lists.{judgeList, placeOf, askedFor, judgeCommand, findCommand, commandFault, commandPart}

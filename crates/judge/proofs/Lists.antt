@@ -16,7 +16,7 @@ use Rattle.command.specs.declared.Refusal.the-variants.{OutOfBounds}
 use Rattle.command.specs.Commands.{codeOf, coordinatesOf, codesOf, numbersOf, commandLimit}
 use Rattle.command.specs.Outcomes.{Outcome, accepted, andThen, listOf}
 use Rattle.command.proofs.Outcomes.{refused-accepted}
-use Rattle.command.proofs.Passes.{codes-length}
+use Rattle.command.proofs.Lists.{codes-length}
 use Rattle.reader.specs.Read.{sizeOfCode}
 use Rattle.reader.proofs.Commands.{size-of, command-read, accepted-read, code-at, coordinates-at}
 use Rattle.judge.specs.Lists.{inFront, readList, judgeList}

@@ -8,7 +8,7 @@ use lib.ListN.{drop}
 use Rattle.command.specs.declared.PathCommand.{PathCommand}
 use Rattle.command.specs.declared.Refusal.the-variants.{Unsupported}
 use Rattle.command.specs.Outcomes.{Outcome, refused, accepted, valueOr, listOf}
-use Rattle.command.specs.Buffers.{fitted, roomOf, needOf}
+use Rattle.command.specs.Buffers.{fitted, sizeOf, needOf}
 use Rattle.command.proofs.Outcomes.{refused-accepted, checks-passed}
 use Rattle.path.proofs.Counts.{path-codes, path-numbers}
 use Rattle.shape.specs.declared.Shape.{Shape}
@@ -23,7 +23,7 @@ use Rattle.draw.proofs.Sources.{drawn-path, drawn-source}
 use Rattle.need.specs.Enough.{SmallByNeed, PathEnough, SourceEnough, ItemEnough, rowRoom}
 
 -- what has a need is drawn, and the need is the room of its commands
-pub drawn-needs : (o : Outcome (List PathCommand)) (need : ℕ × ℕ) → needOf o ≡ accepted need → (o ≡ accepted (listOf o)) × (roomOf (listOf o) ≡ need)
+pub drawn-needs : (o : Outcome (List PathCommand)) (need : ℕ × ℕ) → needOf o ≡ accepted need → (o ≡ accepted (listOf o)) × (sizeOf (listOf o) ≡ need)
 drawn-needs (refused r) need e = refused-accepted r need e
 drawn-needs (accepted cs) need e = (refl, ap (valueOr need) e)
 

@@ -7,12 +7,12 @@ use lib.Ieee.{Float}
 use lib.ListN.{length, take, drop}
 use Rattle.command.specs.declared.Refusal.{Refusal}
 use Rattle.command.specs.declared.Counts.{Counts}
-use Rattle.command.specs.declared.Room.{Room}
+use Rattle.command.specs.declared.Size.{Size}
 use Rattle.command.specs.declared.Verdict.{Verdict}
 use Rattle.command.specs.declared.Verdict.the-variants.{Refused, Passed}
 use Rattle.command.specs.Outcomes.{refused, accepted, checked, countsOf}
 use Rattle.command.specs.Verdicts.{verdictOf}
-use Rattle.command.specs.Buffers.{roomOf, needOf, pairOf}
+use Rattle.command.specs.Buffers.{sizeOf, needOf, pairOf}
 use Rattle.command.proofs.Verdicts.{behind-refused, behind-passed}
 use Rattle.path.specs.Path.{pathCommands}
 use Rattle.shape.specs.declared.Shape.{Shape}
@@ -33,10 +33,10 @@ module _ (closed : ℕ) (v : List Float) (count : ℕ) (u : Verdict) (u-is : ver
   unfolding drawPath
   path-turned r e = rw (behind-refused (pathChecks closed v count) u u-is r e (accepted (pathCommands closed v count)))
 
-  pub path-counted : (room : Room) → u ≡ Passed → pairOf room ≡ roomOf (shapeCommands (Path closed count) v)
-      → accepted (room .codes, room .numbers) ≡ needOf (drawPath closed v count)
+  pub path-counted : (size : Size) → u ≡ Passed → pairOf size ≡ sizeOf (shapeCommands (Path closed count) v)
+      → accepted (size .codes, size .numbers) ≡ needOf (drawPath closed v count)
   unfolding drawPath shapeCommands
-  path-counted room e f = rw (behind-passed (pathChecks closed v count) u u-is e (accepted (pathCommands closed v count))) (ap accepted f)
+  path-counted size e f = rw (behind-passed (pathChecks closed v count) u u-is e (accepted (pathCommands closed v count))) (ap accepted f)
 
 pub ruleset path-needs = (path-ready, path-turned, path-counted)
 
@@ -46,10 +46,10 @@ module _ (k : Checked) (v : List Float) where
   unfolding outcomeOf
   fault-need r is = rw is
 
-  pub sound-need : (place : ℕ) (s : Shape) → k ≡ Sound place s → (room : Room)
-      → pairOf room ≡ roomOf (shapeCommands s (take (length v - place) (drop place v))) → accepted (room .codes, room .numbers) ≡ needOf (outcomeOf k v)
+  pub sound-need : (place : ℕ) (s : Shape) → k ≡ Sound place s → (size : Size)
+      → pairOf size ≡ sizeOf (shapeCommands s (take (length v - place) (drop place v))) → accepted (size .codes, size .numbers) ≡ needOf (outcomeOf k v)
   unfolding outcomeOf
-  sound-need place s is room e = rw is (ap accepted (rw (tail v place) at e))
+  sound-need place s is size e = rw is (ap accepted (rw (tail v place) at e))
 
 pub ruleset checked-needs = (fault-need, sound-need, sound-place, sound-fit)
 

@@ -17,7 +17,7 @@ pub fn path_need(closed: u32, vertices: &[f32], count: usize) -> Counts
     match draw::check_path(closed, vertices, count) {
         Verdict::Refused(refusal) => Counts::Refused(refusal),
         Verdict::Passed => {
-            let need = shape::path_need(closed, count, vertices);
+            let need = shape::need_of_path(closed, count, vertices);
             Counts::Of(need.codes, need.numbers)
         }
     }
@@ -47,8 +47,8 @@ pub fn source_need(row: ItemRow, items: &[f32]) -> Counts
     }
 }
 
-// What one item row needs, or why it is refused. Its source is judged here: with one caller, and that in a loop,
-// `source_need` is inlined there.
+// What one item row needs, or why it is refused. This does not call `source_need`, whose one caller is the loop over the
+// sources of a merge: a second one would keep it from being inlined there.
 pub fn item_need(row: &[u32], items: &[f32]) -> Counts
     ensures { λ r. ⌜ countsOf r ≡ needOf (drawItem (now (row .entry)) (now (items .entry))) ⌝ }
 {

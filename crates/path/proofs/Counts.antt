@@ -10,7 +10,7 @@ use lib.Ieee.{Float}
 use lib.ListN.{length, drop, length-append}
 use Rattle.command.specs.declared.PathCommand.the-variants.{Close}
 use Rattle.command.specs.Commands.{codesOf, numbersOf}
-use Rattle.command.proofs.Passes.{numbers-few, numbers-append, codes-length}
+use Rattle.command.proofs.Lists.{numbers-few, numbers-append, codes-length}
 use Rattle.path.specs.declared.BezierVertex.{BezierVertex}
 use Rattle.path.specs.Path.{vertexAt, verticesOf, bezierSegments, bezierPath, pathCommands}
 use Rattle.path.proofs.Paths.{vertices-length, segments-length, pathCommands-length}

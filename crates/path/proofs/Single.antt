@@ -10,7 +10,7 @@ use lib.ListN.{getD, drop}
 use lib.Seq.{getD-drop}
 use Rattle.command.specs.declared.PathCommand.the-variants.{Line, Cubic, Close}
 use Rattle.command.specs.Commands.{coordinatesOf, numbersOf}
-use Rattle.command.proofs.Passes.{numbers-append}
+use Rattle.command.proofs.Lists.{numbers-append}
 use Rattle.path.specs.declared.BezierVertex.{BezierVertex}
 use Rattle.path.specs.Path.{verticesOf, outX, outY, inX, inY, isLine, bezierSegment, bezierSegments, bezierPath, pathCommands}
 use Rattle.ieee.specs.Single.{AllSingle, Single}

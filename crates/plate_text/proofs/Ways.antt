@@ -19,7 +19,7 @@ use Rattle.command.specs.Refusals.{refusalNumber}
 use Rattle.command.specs.Outcomes.{Outcome, refused, accepted, numberOf, mapped, listOf, countsNumber, firstCount, secondCount}
 use Rattle.command.specs.Buffers.{onto, inBuffers, fitted, Filled, FilledBoth}
 use Rattle.command.proofs.Outcomes.{refused-accepted, number-some, answered}
-use Rattle.command.proofs.Passes.{codes-length}
+use Rattle.command.proofs.Lists.{codes-length}
 use Rattle.path.specs.Path.{pathCommands}
 use Rattle.path.proofs.Counts.{path-codes, path-numbers}
 use Rattle.draw.specs.Paths.{drawPath}

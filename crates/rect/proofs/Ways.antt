@@ -11,7 +11,7 @@ use Rattle.ieee.specs.Sign.{abs}
 use Rattle.ieee.specs.Choice.{min, clamp}
 use Rattle.ieee.specs.Fused.{fma}
 use Rattle.command.specs.declared.PathCommand.the-variants.{Close}
-use Rattle.command.proofs.Passes.{at-known, closes}
+use Rattle.command.proofs.Lists.{at-known, closes}
 use Rattle.command.specs.Commands.{numbersOf}
 use Rattle.rect.specs.declared.Bounds.{Bounds}
 use Rattle.rect.specs.Bounds.{half, nearSide, rectBounds}

@@ -8,7 +8,7 @@ use lib.Ieee.{Float}
 use lib.ListN.{length, drop, length-append}
 use Rattle.command.specs.declared.PathCommand.the-variants.{Line, Cubic, Close}
 use Rattle.command.specs.Commands.{coordinatesOf, numbersOf}
-use Rattle.command.proofs.Passes.{numbers-append}
+use Rattle.command.proofs.Lists.{numbers-append}
 use Rattle.path.specs.declared.BezierVertex.{BezierVertex}
 use Rattle.path.specs.Path.{outX, outY, inX, inY, isLine, vertexAt, verticesOf, bezierSegment, bezierSegments, bezierPath}
 use Rattle.path.proofs.Paths.{shift}

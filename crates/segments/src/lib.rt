@@ -1,5 +1,6 @@
 // How many numbers the path of a vertex list has: two for each line and six for each cubic, counted without writing it.
-// No branch hangs on which of the two a segment is, so a list of both kinds is counted as fast as one of lines.
+// After the cubics that a list begins with, no branch hangs on which of the two a segment is: a list of both kinds is
+// counted as fast as one of lines.
 use path::BezierVertex;
 ghost use mathlib.Core.Path.{_≡_};
 ghost use mathlib.Core.Bool.{_&&_};

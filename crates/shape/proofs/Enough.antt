@@ -4,8 +4,8 @@ use Prim.Native.Nat.{_≤_}
 use native.Mathlib.Omega.{arith}
 use lib.ListN.{length, getD}
 use lib.Ieee.{Float, nan}
-use Rattle.command.specs.Buffers.{roomOf, Within}
-use Rattle.command.proofs.Passes.{codes-length}
+use Rattle.command.specs.Buffers.{sizeOf, Within}
+use Rattle.command.proofs.Lists.{codes-length}
 use Rattle.path.proofs.Paths.{pathCommands-few}
 use Rattle.path.proofs.Counts.{path-codes, path-numbers}
 use Rattle.rect.proofs.Ways.{rect-room}
@@ -16,7 +16,7 @@ use Rattle.shape.specs.declared.Shape.{Shape}
 use Rattle.shape.specs.declared.Shape.the-variants.{Path, Rect, Ellipse}
 use Rattle.shape.specs.Shape.{boundsOf, shapeCommands, Fit, enoughFor}
 
-pub shape-enough : (s : Shape) (v : List Float) → Fit s v → Within (roomOf (shapeCommands s v)) (enoughFor s)
+pub shape-enough : (s : Shape) (v : List Float) → Fit s v → Within (sizeOf (shapeCommands s v)) (enoughFor s)
 unfolding shapeCommands
 shape-enough (Path closed count) v f = (path-codes closed v count (f .some), path-numbers closed v count (f .some))
 shape-enough (Rect radius) v f = rw (codes-length (rectPath (boundsOf v) radius)) (rect-room (boundsOf v) radius)

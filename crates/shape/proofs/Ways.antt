@@ -16,10 +16,10 @@ use Rattle.command.specs.declared.PathCommand.{PathCommand}
 use Rattle.command.specs.declared.PathCommand.the-variants.{Close}
 use Rattle.command.specs.declared.Refusal.the-variants.{BufferTooSmall}
 use Rattle.command.specs.Commands.{codesOf, numbersOf}
-use Rattle.command.specs.declared.Room.{Room}
+use Rattle.command.specs.declared.Size.{Size}
 use Rattle.command.specs.Outcomes.{accepted}
-use Rattle.command.specs.Buffers.{fitted, inBuffers, FilledBoth, roomOf, pairOf}
-use Rattle.command.proofs.Passes.{codes-length}
+use Rattle.command.specs.Buffers.{fitted, inBuffers, FilledBoth, sizeOf, pairOf}
+use Rattle.command.proofs.Lists.{codes-length}
 use Rattle.command.proofs.Writes.{writes}
 use Rattle.command.proofs.Buffers.{fitted-accepted, fitted-refused, filled, both-unfilled}
 use Rattle.path.specs.Path.{bezierPath, verticesOf, bezierCount, pathCommands}
@@ -119,16 +119,16 @@ module _ (v : List Float) where
 pub ellipse-fit : (s : Shape) (v : List Float) → s ≡ Ellipse → Fit s v → Fit Ellipse v
 ellipse-fit s v is fit = rw is at fit
 
-pub room-is : (cs : List PathCommand) (n m : ℕ) → n ≡ length cs → m ≡ length (numbersOf cs) → (n, m) ≡ roomOf cs
-room-is cs n m e f = rw (codes-length cs, ← e, ← f)
+pub size-is : (cs : List PathCommand) (n m : ℕ) → n ≡ length cs → m ≡ length (numbersOf cs) → (n, m) ≡ sizeOf cs
+size-is cs n m e f = rw (codes-length cs, ← e, ← f)
 
 -- ---- the arms of a match on the kind: room for a shape is room for the kind that it is, and what that kind has and writes the shape has and writes
 module _ (s t : Shape) (is : s ≡ t) (v : List Float) where
-  pub need-is : (r : Room) → pairOf r ≡ roomOf (shapeCommands t v) → pairOf r ≡ roomOf (shapeCommands s v)
+  pub need-is : (r : Size) → pairOf r ≡ sizeOf (shapeCommands t v) → pairOf r ≡ sizeOf (shapeCommands s v)
   need-is r e = rw is e
 
-  pub counts-are : (n m : ℕ) → n ≡ length (shapeCommands t v) → m ≡ length (numbersOf (shapeCommands t v)) → (n, m) ≡ roomOf (shapeCommands s v)
-  counts-are n m e f = rw is (room-is (shapeCommands t v) n m e f)
+  pub counts-are : (n m : ℕ) → n ≡ length (shapeCommands t v) → m ≡ length (numbersOf (shapeCommands t v)) → (n, m) ≡ sizeOf (shapeCommands s v)
+  counts-are n m e f = rw is (size-is (shapeCommands t v) n m e f)
 
   module _ (i : ℕ) where
     pub codes-room : (n : ℕ) → i + length (codesOf (shapeCommands s v)) ≤ n → i + length (codesOf (shapeCommands t v)) ≤ n
@@ -167,7 +167,7 @@ pub ruleset rect-loops = (plain-is, plain-five, round-is, round-ten, command-is,
 
 pub ruleset ellipse-loops = (ellipse-is, ellipse-six, command-is, writes, afters)
 
-pub ruleset path-needs = (path-few, path-count, path-numbers, room-is)
+pub ruleset path-needs = (path-few, path-count, path-numbers, size-is)
 
 pub ruleset path-arms = (path-fit, path-few, path-count, path-numbers, codes-fit, six-fits, two-more-fit)
 
@@ -187,8 +187,8 @@ path-ample s v closed count codes numbers is fit e =
     let b = leb-true (6 * count + 2) numbers (held .1) in
     rw (
       is,
-      le-leb (roomOf (shapeCommands (Path closed count) v) .0) codes (omega arith),
-      le-leb (roomOf (shapeCommands (Path closed count) v) .1) numbers (omega arith),
+      le-leb (sizeOf (shapeCommands (Path closed count) v) .0) codes (omega arith),
+      le-leb (sizeOf (shapeCommands (Path closed count) v) .1) numbers (omega arith),
     )
 
 pub ruleset amples = (path-few, codes-fit, six-fits, two-more-fit)
@@ -199,8 +199,8 @@ both-held a b t h = rw (le-leb a b h)
 pub none-held : (a b : ℕ) (t : Bool) → b < a → false ≡ (leb a b && t)
 none-held a b t h = rw (lt-leb a b h)
 
-module _ (s : Shape) (v : List Float) (room : Room) (codes numbers : ℕ) (t : Bool) (t-is : t ≡ (leb (room .codes) codes && leb (room .numbers) numbers)) where
-  pub fits-by-need : pairOf room ≡ roomOf (shapeCommands s v) → t ≡ inBuffers codes numbers (shapeCommands s v)
+module _ (s : Shape) (v : List Float) (size : Size) (codes numbers : ℕ) (t : Bool) (t-is : t ≡ (leb (size .codes) codes && leb (size .numbers) numbers)) where
+  pub fits-by-need : pairOf size ≡ sizeOf (shapeCommands s v) → t ≡ inBuffers codes numbers (shapeCommands s v)
   fits-by-need e = t-is ∙ ap (λ (n : ℕ × ℕ). leb (n .0) codes && leb (n .1) numbers) e
 
 pub fits-anyway : (s : Shape) (v : List Float) (codes numbers : ℕ) (t : Bool) → (t ≡ true → inBuffers codes numbers (shapeCommands s v) ≡ true) → t ≡ true

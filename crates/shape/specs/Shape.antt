@@ -1,4 +1,4 @@
--- What a shape draws. Definitions only.
+-- What a shape draws, and room that is enough for it. Definitions only.
 use Prim.Native.Nat.{ℕ, _+_, _*_, _≤_}
 use mathlib.Core.List.{List}
 use lib.Ieee.{Float, nan}
@@ -28,16 +28,17 @@ Fit (Path closed count) v = Sound v count
 Fit (Rect radius) v = 4 ≤ length v
 Fit Ellipse v = 4 ≤ length v
 
--- ---- Room that is enough for a shape, whatever its numbers. Of n vertices, open or closed, this was the tray estimate of document 01; what a shape needs
--- is at most this (`shape-enough` in proofs/Enough.antt), and exactly as much as its commands have.
+-- ---- Room that is enough for a shape, whatever its numbers: what it needs is within this (`shape-enough` in proofs/Enough.antt).
+
+-- n vertices, open or closed: document 01's 'n + 2 codes and 6n + 2 numbers for n vertices, never less than a drawing writes'
 abbrev pub pathRoom : ℕ → ℕ × ℕ
 pathRoom n = (n + 2, 6 * n + 2)
 
--- that of round corners; sharp ones need 5 codes and 8 numbers
+-- a rectangle: what round corners need; sharp ones need 5 codes and 8 numbers
 abbrev pub rectRoom : ℕ × ℕ
 rectRoom = (10, 34)
 
--- every ellipse needs just this
+-- an ellipse: every one needs just this
 abbrev pub ellipseRoom : ℕ × ℕ
 ellipseRoom = (6, 26)
 

@@ -1,7 +1,7 @@
 // A drawing of any kind: what it needs of two buffers, and its commands written to them, one at a time.
 use command::Counts;
 use command::Refusal;
-use command::Room;
+use command::Size;
 use rect::Bounds;
 ghost use mathlib.Core.Path.{_≡_};
 ghost use mathlib.Core.Bool.{true, _&&_};
@@ -11,7 +11,7 @@ ghost use lib.ListN.{length};
 ghost use lib.Seq.{sets};
 ghost use Rattle.command.specs.Commands.{codesOf, numbersOf};
 ghost use Rattle.command.specs.Outcomes.{accepted, countsNumber, firstCount, secondCount};
-ghost use Rattle.command.specs.Buffers.{fitted, inBuffers, FilledBoth, roomOf, pairOf};
+ghost use Rattle.command.specs.Buffers.{fitted, inBuffers, FilledBoth, sizeOf, pairOf};
 ghost use Rattle.shape.specs.declared.Shape.the-variants.{Path, Rect, Ellipse};
 ghost use Rattle.shape.specs.Shape.{boundsOf, shapeCommands, Fit};
 
@@ -25,30 +25,30 @@ pub enum Shape {
     Ellipse,
 }
 
-// What a path needs: each of its segments may be a line or a cubic, so all are looked at. A vertex list is counted by this
-// too; with two callers it is not inlined, and `need_of`, which then is small, is.
-pub fn path_need(closed: u32, count: usize, list: &[f32]) -> Room
+// What a path needs: each of its segments may be a line or a cubic, so all are looked at. A vertex list, known to be a path,
+// asks here and not `need_of`. So there are two callers and this is not inlined, and `need_of`, which stays small, is.
+pub fn need_of_path(closed: u32, count: usize, list: &[f32]) -> Size
     requires { ⌜ Fit (Path closed count) (now list) ⌝ }
-    ensures { λ r. ⌜ pairOf r ≡ roomOf (shapeCommands (Path closed count) (now (list .entry))) ⌝ }
+    ensures { λ r. ⌜ pairOf r ≡ sizeOf (shapeCommands (Path closed count) (now (list .entry))) ⌝ }
 {
-    Room {
+    Size {
         codes: path::bezier_count(closed, count),
         numbers: segments::path_numbers(closed, list, count),
     }
 }
 
-// What a shape needs, exactly: the one count that drawing, telling and merging go by.
-pub fn need_of(shape: Shape, list: &[f32]) -> Room
+// What a shape needs, exactly: the one count that drawing, telling and merging go by; of a path it is the one above.
+pub fn need_of(shape: Shape, list: &[f32]) -> Size
     requires { ⌜ Fit shape (now list) ⌝ }
-    ensures { λ r. ⌜ pairOf r ≡ roomOf (shapeCommands shape (now (list .entry))) ⌝ }
+    ensures { λ r. ⌜ pairOf r ≡ sizeOf (shapeCommands shape (now (list .entry))) ⌝ }
 {
     match shape {
-        Shape::Path(closed, count) => path_need(closed, count, list),
-        Shape::Rect(radius) => Room {
+        Shape::Path(closed, count) => need_of_path(closed, count, list),
+        Shape::Rect(radius) => Size {
             codes: rect::rect_count(radius),
             numbers: rect::rect_numbers(radius),
         },
-        Shape::Ellipse => Room {
+        Shape::Ellipse => Size {
             codes: 6,
             numbers: 26,
         },
@@ -64,7 +64,7 @@ fn write_path(
     i: usize,
     numbers: &mut [f32],
     j: usize,
-) -> Room
+) -> Size
     requires { ⌜ Fit (Path closed count) (now list) ⌝ }
     requires { ⌜ i + length (codesOf (shapeCommands (Path closed count) (now list))) ≤ length (now codes) ⌝ }
     requires { ⌜ j + length (numbersOf (shapeCommands (Path closed count) (now list))) ≤ length (now numbers) ⌝ }
@@ -82,7 +82,7 @@ fn write_path(
         at = command::put_numbers(c, numbers, at);
         k += 1;
     }
-    Room {
+    Size {
         codes: i + n,
         numbers: at,
     }
@@ -105,7 +105,7 @@ fn write_rect(
     i: usize,
     numbers: &mut [f32],
     j: usize,
-) -> Room
+) -> Size
     requires { ⌜ Fit (Rect radius) (now list) ⌝ }
     requires { ⌜ i + length (codesOf (shapeCommands (Rect radius) (now list))) ≤ length (now codes) ⌝ }
     requires { ⌜ j + length (numbersOf (shapeCommands (Rect radius) (now list))) ≤ length (now numbers) ⌝ }
@@ -124,7 +124,7 @@ fn write_rect(
             at = command::put_numbers(c, numbers, at);
             k += 1;
         }
-        return Room {
+        return Size {
             codes: i + 5,
             numbers: at,
         };
@@ -135,14 +135,14 @@ fn write_rect(
         at = command::put_numbers(c, numbers, at);
         k += 1;
     }
-    Room {
+    Size {
         codes: i + 10,
         numbers: at,
     }
 }
 
 // Writes an ellipse at places of buffers that it fits, and gives the places after it.
-fn write_ellipse(list: &[f32], codes: &mut [u8], i: usize, numbers: &mut [f32], j: usize) -> Room
+fn write_ellipse(list: &[f32], codes: &mut [u8], i: usize, numbers: &mut [f32], j: usize) -> Size
     requires { ⌜ Fit Ellipse (now list) ⌝ }
     requires { ⌜ i + length (codesOf (shapeCommands Ellipse (now list))) ≤ length (now codes) ⌝ }
     requires { ⌜ j + length (numbersOf (shapeCommands Ellipse (now list))) ≤ length (now numbers) ⌝ }
@@ -164,7 +164,7 @@ fn write_ellipse(list: &[f32], codes: &mut [u8], i: usize, numbers: &mut [f32], 
         at = command::put_numbers(c, numbers, at);
         k += 1;
     }
-    Room {
+    Size {
         codes: i + 6,
         numbers: at,
     }
@@ -178,7 +178,7 @@ pub fn write_at(
     i: usize,
     numbers: &mut [f32],
     j: usize,
-) -> Room
+) -> Size
     requires { ⌜ Fit shape (now list) ⌝ }
     requires { ⌜ i + length (codesOf (shapeCommands shape (now list))) ≤ length (now codes) ⌝ }
     requires { ⌜ j + length (numbersOf (shapeCommands shape (now list))) ≤ length (now numbers) ⌝ }
@@ -207,12 +207,12 @@ fn is_ample(shape: Shape, list: &[f32], codes: usize, numbers: usize) -> bool
     }
 }
 
-// Whether two buffers of these lengths have this much room.
-fn holds(room: Room, codes: usize, numbers: usize) -> bool
-    ensures { λ r. ⌜ r ≡ (leb (room .codes) codes && leb (room .numbers) numbers) ⌝ }
+// Whether two buffers of these lengths have so many places.
+fn holds(size: Size, codes: usize, numbers: usize) -> bool
+    ensures { λ r. ⌜ r ≡ (leb (size .codes) codes && leb (size .numbers) numbers) ⌝ }
 {
-    if room.codes <= codes {
-        room.numbers <= numbers
+    if size.codes <= codes {
+        size.numbers <= numbers
     } else {
         false
     }

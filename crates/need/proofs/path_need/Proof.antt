@@ -13,8 +13,8 @@ enum-known-refusal c = search needs
 enum-told : tie.Need-enum-told
 enum-told c = search needs
 
-path-need-requires : tie.Need-path-need-requires
-path-need-requires c κs = search (needs, path-needs)
+need-of-path-requires : tie.Need-need-of-path-requires
+need-of-path-requires c κs = search (needs, path-needs)
 
 returns : tie.Need-returns
 returns c = search (needs, path-needs)
@@ -29,6 +29,6 @@ path-need-spec =
     check-path-requires
     enum-known-refusal
     enum-told
-    path-need-requires
+    need-of-path-requires
     returns
     returns-2)

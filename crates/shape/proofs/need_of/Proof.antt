@@ -7,8 +7,8 @@ use Rattle.shape.proofs.need_of.Tie as tie
 enum-known-shape : tie.Need-enum-known-shape
 enum-known-shape c = search needs
 
-path-need-requires : tie.Need-path-need-requires
-path-need-requires c κs = search (needs, arms)
+need-of-path-requires : tie.Need-need-of-path-requires
+need-of-path-requires c κs = search (needs, arms)
 
 enum-known-shape-2 : tie.Need-enum-known-shape-2
 enum-known-shape-2 c = search needs
@@ -36,7 +36,7 @@ need-of-spec =
     tie.close
     (tie.spec
     enum-known-shape
-    path-need-requires
+    need-of-path-requires
     enum-known-shape-2
     rect-count-requires
     rect-numbers-requires
