@@ -1,4 +1,4 @@
--- Room that is enough for a merge: that of each of its sources, added up. Definitions only.
+-- What is promised of a merge's need: that 11 is given by it, and that it is within the rooms of the sources, added up. Definitions only.
 use Prim.Native.Nat.{ℕ, _+_}
 use mathlib.Core.Path.{_≡_}
 use mathlib.Core.List.{List, [], _∷_, map}
@@ -7,9 +7,12 @@ use Rattle.command.specs.Outcomes.{accepted}
 use Rattle.command.specs.Buffers.{needOf, Within}
 use Rattle.item.specs.declared.ItemRow.{ItemRow}
 use Rattle.item.specs.Rows.{itemRow}
-use Rattle.need.specs.Enough.{rowRoom}
+use Rattle.need.specs.Enough.{SmallByNeed, rowRoom}
 use Rattle.merge.specs.Decision.{decision}
 use Rattle.join.specs.Merge.{drawMerge}
+
+abbrev pub MergeSmall : Type 0
+MergeSmall = (rows : List ℕ) (n : ℕ) (items : List Float) → SmallByNeed (drawMerge rows n items)
 
 unfoldable pub sourcesRoom : List ItemRow → ℕ × ℕ
 sourcesRoom [] = (0, 0)

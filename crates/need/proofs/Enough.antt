@@ -1,4 +1,4 @@
--- 11 is given by the need, and a need is within the room that is enough for so many vertices or for a row. Assumes nothing.
+-- What has a need is drawn, and a need is within the room that is enough for so many vertices or for a row. Assumes nothing.
 use mathlib.Core.Path.{_≡_, refl, sym, ap, _∙_}
 use mathlib.Core.Bool.{Bool, true, false, cond}
 use mathlib.Core.List.{List}
@@ -8,7 +8,7 @@ use lib.ListN.{drop}
 use Rattle.command.specs.declared.PathCommand.{PathCommand}
 use Rattle.command.specs.declared.Refusal.the-variants.{Unsupported}
 use Rattle.command.specs.Outcomes.{Outcome, refused, accepted, valueOr, listOf}
-use Rattle.command.specs.Buffers.{fitted, sizeOf, needOf}
+use Rattle.command.specs.Buffers.{sizeOf, needOf}
 use Rattle.command.proofs.Outcomes.{refused-accepted, checks-passed}
 use Rattle.path.proofs.Counts.{path-codes, path-numbers}
 use Rattle.shape.specs.declared.Shape.{Shape}
@@ -20,17 +20,12 @@ use Rattle.item.specs.Rows.{itemRow, isPath, isRect, isEllipse}
 use Rattle.draw.specs.Paths.{drawPath}
 use Rattle.draw.specs.Items.{rectOf, itemShape, drawSource, itemChecks, drawItem}
 use Rattle.draw.proofs.Sources.{drawn-path, drawn-source}
-use Rattle.need.specs.Enough.{SmallByNeed, PathEnough, SourceEnough, ItemEnough, rowRoom}
+use Rattle.need.specs.Enough.{PathEnough, SourceEnough, ItemEnough, rowRoom}
 
 -- what has a need is drawn, and the need is the room of its commands
 pub drawn-needs : (o : Outcome (List PathCommand)) (need : ℕ × ℕ) → needOf o ≡ accepted need → (o ≡ accepted (listOf o)) × (sizeOf (listOf o) ≡ need)
 drawn-needs (refused r) need e = refused-accepted r need e
 drawn-needs (accepted cs) need e = (refl, ap (valueOr need) e)
-
-pub small-by-need : SmallByNeed
-unfolding fitted
-small-by-need (refused r) need codes numbers e = refused-accepted r need e
-small-by-need (accepted cs) need codes numbers e = rw (← ap (valueOr need) e)
 
 -- ---- the room that is enough
 pub path-enough : PathEnough

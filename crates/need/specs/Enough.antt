@@ -3,13 +3,12 @@
 -- (crates/command/specs/Buffers.antt), and that is what the calls promise (crates/jengafir). Here stands what follows. Definitions only.
 use Prim.Native.Nat.{ℕ}
 use mathlib.Core.Path.{_≡_}
-use mathlib.Core.Bool.{cond, _&&_}
+use mathlib.Core.Bool.{Bool, false, cond, not, _&&_}
 use mathlib.Core.List.{List}
-use lib.Dec.{leb}
+use lib.Dec.{eqb, leb}
 use lib.Ieee.{Float}
 use Rattle.command.specs.declared.PathCommand.{PathCommand}
-use Rattle.command.specs.declared.Refusal.the-variants.{BufferTooSmall}
-use Rattle.command.specs.Outcomes.{Outcome, refused, accepted}
+use Rattle.command.specs.Outcomes.{Outcome, refused, accepted, numberOf}
 use Rattle.command.specs.Buffers.{fitted, inBuffers, needOf, Within}
 use Rattle.shape.specs.Shape.{pathRoom, rectRoom, ellipseRoom}
 use Rattle.item.specs.declared.ItemRow.{ItemRow}
@@ -17,12 +16,20 @@ use Rattle.item.specs.Rows.{itemRow, isPath, isRect}
 use Rattle.draw.specs.Paths.{drawPath}
 use Rattle.draw.specs.Items.{drawSource, drawItem}
 
--- 'Its callers give 11 by this need': where there is one, exactly if one of the two buffers has fewer places. So buffers of just the need are enough, and with
--- a place less in either the answer is refused.
-abbrev pub SmallByNeed : Type 0
-SmallByNeed =
-    (o : Outcome (List PathCommand)) (need : ℕ × ℕ) (codes numbers : ℕ) → needOf o ≡ accepted need
-    → fitted (inBuffers codes numbers) o ≡ cond (leb (need .0) codes && leb (need .1) numbers) o (refused BufferTooSmall)
+-- 'Its callers give 11 by this need': exactly if there is a need, and one of the two buffers has fewer places. So buffers of just the need are enough, and
+-- with a place less in either the answer is refused.
+abbrev pub isSmall : ℕ → ℕ → Outcome (ℕ × ℕ) → Bool
+isSmall codes numbers (refused r) = false
+isSmall codes numbers (accepted need) = not (leb (need .0) codes && leb (need .1) numbers)
+
+abbrev pub SmallByNeed : Outcome (List PathCommand) → Type 0
+SmallByNeed o = (codes numbers : ℕ) → eqb (numberOf (fitted (inBuffers codes numbers) o)) 11 ≡ isSmall codes numbers (needOf o)
+
+abbrev pub PathSmall : Type 0
+PathSmall = (closed : ℕ) (v : List Float) (n : ℕ) → SmallByNeed (drawPath closed v n)
+
+abbrev pub ItemSmall : Type 0
+ItemSmall = (row : List ℕ) (items : List Float) → SmallByNeed (drawItem row items)
 
 -- ---- room that is enough, for arrays whose sizes are fixed before a drawing is known
 
