@@ -14,6 +14,7 @@ use Rattle.join.specs.Merge.{drawMerge}
 abbrev pub MergeSmall : Type 0
 MergeSmall = (rows : List ℕ) (n : ℕ) (items : List Float) → SmallByNeed (drawMerge rows n items)
 
+-- the rooms of the sources, added up
 unfoldable pub sourcesRoom : List ItemRow → ℕ × ℕ
 sourcesRoom [] = (0, 0)
 sourcesRoom (r ∷ rs) = (rowRoom r .0 + sourcesRoom rs .0, rowRoom r .1 + sourcesRoom rs .1)

@@ -22,7 +22,7 @@ use Rattle.draw.specs.Items.{rectOf, itemShape, drawSource, itemChecks, drawIte
 use Rattle.draw.proofs.Sources.{drawn-path, drawn-source}
 use Rattle.need.specs.Enough.{PathEnough, SourceEnough, ItemEnough, rowRoom}
 
--- what has a need is drawn, and the need is the room of its commands
+-- what has a need is drawn, and the need is the size of its commands
 pub drawn-needs : (o : Outcome (List PathCommand)) (need : ℕ × ℕ) → needOf o ≡ accepted need → (o ≡ accepted (listOf o)) × (sizeOf (listOf o) ≡ need)
 drawn-needs (refused r) need e = refused-accepted r need e
 drawn-needs (accepted cs) need e = (refl, ap (valueOr need) e)

@@ -78,9 +78,6 @@ module _ (v : List Float) (count : ℕ) (s : Sound v count) where
     pub place-fits : (k : ℕ) → k ≤ 4 → Fits w64 (j + k)
     place-fits k h = record { fits = omega (arith, s .few, P .inside) }
 
-    pub vertex-inside : (k : ℕ) → j + k < count → 6 * (j + k) + 6 ≤ length v
-    vertex-inside k h = omega (arith, s .inside)
-
     pub four-inside : j + 4 < count → 6 * j + 24 ≤ length v
     four-inside h = omega (arith, s .inside)
 
