@@ -1,4 +1,4 @@
--- Comparisons by the values of their operands (`lt-at`, `eq-at`, `le-at`), and that multiplying both sides by 2 ^ k leaves `lt` as it is. Assumes nothing.
+-- Comparisons by the values of their operands (`lt-at`, `eq-at`, `le-at`), and that multiplying both sides by 2 ^ k changes none. Assumes nothing.
 use mathlib.Core.Path.{_≡_, refl, sym, ap, _∙_}
 use Prim.Native.Nat.{ℕ, zero, suc, _+_, _*_, _^_, _<_}
 use native.Mathlib.Nat.{zero-mul, add-mul, mul-comm, mul-assoc, mul-left-comm, mul-pos}
@@ -74,6 +74,17 @@ lt-fin k s m e t n d =
     ∙ below-mul s (m * up e * down d) t (n * up d * down e) (2 ^ k) (pow-pos k)
     ∙ sym (lt-at (fin s m e) (fin t n d) s t (m * up e * down d) (n * up d * down e) c C v w)
 
+eq-fin : (k : ℕ) (s : Bool) (m : ℕ) (e : ℤ) (t : Bool) (n : ℕ) (d : ℤ) → eq (scale k (fin s m e)) (scale k (fin t n d)) ≡ eq (fin s m e) (fin t n d)
+eq-fin k s m e t n d =
+    let c = down e * down d in
+    let C : 0 < c = mul-pos (down-pos e) (down-pos d) in
+    let v = own s m e (down d) in
+    let w = own' t n d (down e) in
+    eq-at (scale k (fin s m e)) (scale k (fin t n d)) s t (m * up e * down d * 2 ^ k) (n * up d * down e * 2 ^ k) c C
+    (scale-val k (fin s m e) s (m * up e * down d) c v) (scale-val k (fin t n d) t (n * up d * down e) c w)
+    ∙ level-mul s (m * up e * down d) t (n * up d * down e) (2 ^ k) (pow-pos k)
+    ∙ sym (eq-at (fin s m e) (fin t n d) s t (m * up e * down d) (n * up d * down e) c C v w)
+
 pub lt-scale : (k : ℕ) (x y : Float) → lt (scale k x) (scale k y) ≡ lt x y
 unfolding lt
 lt-scale k nan y = refl
@@ -86,3 +97,20 @@ lt-scale k (fin s (suc m) e) nan = refl
 lt-scale k (fin s zero e) (inf t) = refl
 lt-scale k (fin s (suc m) e) (inf t) = refl
 lt-scale k (fin s m e) (fin t n d) = lt-fin k s m e t n d
+
+eq-scale : (k : ℕ) (x y : Float) → eq (scale k x) (scale k y) ≡ eq x y
+unfolding eq
+eq-scale k nan y = refl
+eq-scale k (inf s) nan = refl
+eq-scale k (inf s) (inf t) = refl
+eq-scale k (inf s) (fin t zero d) = refl
+eq-scale k (inf s) (fin t (suc n) d) = refl
+eq-scale k (fin s zero e) nan = refl
+eq-scale k (fin s (suc m) e) nan = refl
+eq-scale k (fin s zero e) (inf t) = refl
+eq-scale k (fin s (suc m) e) (inf t) = refl
+eq-scale k (fin s m e) (fin t n d) = eq-fin k s m e t n d
+
+pub le-scale : (k : ℕ) (x y : Float) → le (scale k x) (scale k y) ≡ le x y
+unfolding le
+le-scale k x y = λ i. lt-scale k x y i || eq-scale k x y i

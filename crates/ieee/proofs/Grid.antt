@@ -2,24 +2,27 @@
 -- multiplies the result, as data (`..-scale`). Assumes nothing.
 use mathlib.Core.Path.{_≡_, refl, sym, ap, _∙_, subst}
 use Prim.Native.Nat.{ℕ, zero, suc, _+_, _-_, _*_, _/_, _%_, _^_, _≤_, _<_, zero-le}
-use native.Mathlib.Nat.{le-trans, le-of-eq, lt-of-le-of-lt, zero-lt-suc, zero-mul, one-mul, mul-one, add-zero, add-right-comm, add-mul, mul-comm, mul-assoc, mul-right-comm, mul-le-mul, mul-le-mul-right, le-of-mul-le-mul-right, mul-lt-mul-of-pos-right, div-add-mod', mul-mod-left, two-pow-succ}
+use native.Mathlib.Nat.{le-refl, le-trans, le-of-eq, lt-of-le-of-lt, zero-lt-suc, zero-mul, one-mul, mul-one, add-zero, add-right-comm, add-mul, mul-comm, mul-assoc, mul-right-comm, mul-le-mul, mul-le-mul-right, le-of-mul-le-mul-right, mul-lt-mul-of-pos-right, div-add-mod', mul-mod-left, two-pow-succ}
 use native.Mathlib.Omega.{arith}
 use mathlib.Core.Bool.{Bool, true, false, not, _&&_, Bool·beq, cond}
 use lib.IntN.{ℤ, pos, negsuc}
 use lib.Dec.{T, ltb, eqb, leb, eqb→eq, leb→le, le→leb}
 use lib.Pow.{pow-add, pow-pos, pow-mono}
-use lib.Ieee.{Float, nan, inf, fin, Format, prec, emax, low, up, down, unlike, round, neg, sum, add, sub, mul, fits}
+use lib.Ieee.{Float, nan, inf, fin, Format, prec, emax, low, up, down, unlike, size, round, neg, sum, add, sub, mul, fits}
 use lib.Ieee.Fits.{and-i, and-l, and-r, eq→eqb, down-pos}
 use lib.Ieee.Exact.{HasValue}
+use lib.Ieee.Nearest.{closest}
+use lib.Ieee.Scale.{overflow, finite}
 use Rattle.ieee.specs.Sign.{abs}
 use Rattle.ieee.specs.Fused.{fma}
 use Rattle.ieee.specs.Cut.{cut}
 use Rattle.ieee.specs.Grid.{scale, on, On}
 use Rattle.ieee.proofs.Digits.{pow-lt-back, pow-split, sub-mul}
 use Rattle.ieee.proofs.Tests.{ltb-mul}
-use Rattle.ieee.proofs.Cut.{cut-mono, cut-le-pow, cut-absorb}
+use Rattle.ieee.proofs.Cut.{cut-is, cut-exact, cut-small, cut-scale, cut-mono, cut-le-pow, cut-absorb}
 use Rattle.ieee.proofs.Value.{fits-elim, rescale, neg-val, abs-val, scale-val}
-use Rattle.ieee.proofs.Round.{prec-pos, place, round-own, round-scale, round-on, under-top}
+use Rattle.ieee.proofs.Units.{units-inf, by-overflow}
+use Rattle.ieee.proofs.Round.{prec-pos, place, round-units, round-own, round-scale, round-on, under-top}
 use Rattle.ieee.proofs.Operations.{unlike-false, add-at, sub-is, mul-at, fma-at}
 
 -- ---- a finer grid, a larger bound
@@ -292,3 +295,64 @@ mul-pow f k q b x Q B t X =
     ∙ (λ i. round f (unlike-false s i) (n * 2 ^ k) (mul-one (2 ^ q) i))
     ∙ round-scale f s n (2 ^ q) q n k (pow-pos q) Q refl (under-top f q b k (cut (prec f) n) B (cut-le-pow (prec f) n (b + q) (prec-pos f) (X .bound)))
     ∙ ap (scale k) (round-own f x s n (2 ^ q) t (pow-pos q) (X .value))
+
+-- ---- and so it is for every float of the format but where that product overflows
+
+-- a finite float in the format's smallest values, of which it keeps all digits
+record InUnits (f : Format) (s : Bool) (x : Float) : Type 0 where
+  count : ℕ
+  value : HasValue x s count (2 ^ low f)
+  kept : cut (prec f) count ≡ count
+
+in-units : (f : Format) (s : Bool) (m : ℕ) (e : ℤ) → T (fits f (fin s m e)) → InUnits f s (fin s m e)
+in-units f s zero e t = record {
+  count = 0;
+  value = (refl, ap (λ (n : ℕ). n * 2 ^ low f) (zero-mul (up e)) ∙ zero-mul (2 ^ low f) ∙ sym (zero-mul (down e)));
+  kept = cut-small (prec f) 0 (pow-pos (prec f));
+}
+in-units f s (suc m) e t =
+    let g = fits-elim f s m e t in
+    let pl = place (low f) e (g .2) in
+    record {
+      count = suc m * 2 ^ (pl .0);
+      value = (refl, mul-assoc (suc m) (up e) (2 ^ low f) ∙ ap (λ (n : ℕ). suc m * n) (pl .1) ∙ sym (mul-assoc (suc m) (2 ^ (pl .0)) (down e)));
+      kept = cut-exact (prec f) (suc m) (pl .0) (g .1);
+    }
+
+module _ (f : Format) (k : ℕ) (s : Bool) (m : ℕ) (e : ℤ) (t : T (fits f (fin s m e))) where
+  abbrev x : Float
+  x = fin s m e
+
+  abbrev U : InUnits f s x
+  U = in-units f s m e t
+
+  as-units : mul f x (fin false 1 (pos k)) ≡ round f s (U .count * 2 ^ k) (2 ^ low f)
+  as-units =
+      let v : HasValue (fin false 1 (pos k)) false (2 ^ k) 1 = (refl, ap (λ (z : ℕ). z * 1) (one-mul (2 ^ k))) in
+      mul-at f x (fin false 1 (pos k)) s false (U .count) (2 ^ low f) (2 ^ k) 1 (pow-pos (low f)) (zero-lt-suc 0) (U .value) v
+      ∙ (λ i. round f (unlike-false s i) (U .count * 2 ^ k) (mul-one (2 ^ low f) i))
+
+  below : U .count * 2 ^ k < overflow f → mul f x (fin false 1 (pos k)) ≡ scale k x
+  below h =
+      as-units
+      ∙ round-scale f s (U .count) (2 ^ low f) (low f) (U .count) k (pow-pos (low f)) (le-refl (low f)) refl
+      (subst (λ (n : ℕ). n * 2 ^ k < overflow f) (sym (U .kept)) h)
+      ∙ ap (scale k) (round-own f x s (U .count) (2 ^ low f) t (pow-pos (low f)) (U .value))
+
+  above : overflow f ≤ U .count * 2 ^ k → mul f x (fin false 1 (pos k)) ≡ inf s
+  above h =
+      let M = U .count * 2 ^ k in
+      let kept : M ≡ cut (prec f) M = ap (λ (n : ℕ). n * 2 ^ k) (sym (U .kept)) ∙ sym (cut-scale (prec f) (U .count) k (prec-pos f)) in
+      as-units
+      ∙ round-units f s M
+      ∙ units-inf f s (closest M (2 ^ (size M - prec f))) (size M - prec f) (subst (λ (n : ℕ). overflow f ≤ n) (kept ∙ cut-is (prec f) M) h)
+
+pub mul-pow-finite : (f : Format) (k : ℕ) (x : Float) → T (fits f x) → (T (finite x) → T (finite (mul f x (fin false 1 (pos k)))))
+    → mul f x (fin false 1 (pos k)) ≡ scale k x
+unfolding mul
+mul-pow-finite f k nan t h = refl
+mul-pow-finite f k (inf s) t h = ap inf (unlike-false s)
+mul-pow-finite f k (fin s m e) t h =
+    by-overflow f (in-units f s m e t .count * 2 ^ k) (mul f (fin s m e) (fin false 1 (pos k)) ≡ scale k (fin s m e))
+    (below f k s m e t)
+    (λ g. absurd (subst (λ (y : Float). T (finite y)) (above f k s m e t g) (h tt)))

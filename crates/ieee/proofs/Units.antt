@@ -25,7 +25,7 @@ units-inf f s q k h = ap (λ (b : Bool). cond b (odd (suc (prec f)) s q k (low f
 
 -- on either side of the overflow
 module _ (f : Format) (n : ℕ) (P : Type 0) where
-  by-overflow : (n < overflow f → P) → (overflow f ≤ n → P) → P
+  pub by-overflow : (n < overflow f → P) → (overflow f ≤ n → P) → P
   by-overflow low high = go (ltb n (overflow f)) (ltb→lt n (overflow f)) (nltb→le n (overflow f))
     where
       go : (b : Bool) → (T b → n < overflow f) → (T (not b) → overflow f ≤ n) → P
