@@ -17,7 +17,7 @@ use Rattle.command.specs.Enlarged.{AllOn, Twins}
 use Rattle.command.proofs.Lists.{codes-length}
 use Rattle.command.proofs.Enlarged.{grid-within, twins-codes, twins-numbers, twins-length, twins-grid}
 use Rattle.reader.specs.Read.{sizeOfCode}
-use Rattle.judge.specs.Lists.{judgeList, placeOf, askedFor, judgeCommand, findCommand, commandFault, commandPart}
+use Rattle.judge.specs.Lists.{readList, judgeList, placeOf, askedFor, judgeCommand, findCommand, commandFault, commandPart}
 use Rattle.judge.proofs.Lists.{commands-read}
 
 -- ---- a list within the limit, judged: only its length counts
@@ -30,9 +30,13 @@ all-within q b (x ∷ xs) B X = ap₂ (λ (s t : Bool). s && t) (grid-within q b
 abbrev pub lengthCheck : ℕ → List Check
 lengthCheck n = (ltb 262144 n gives TooMany) ∷ []
 
+-- read, it is its commands
+pub grid-read : (q b : ℕ) (cs : List PathCommand) → b ≤ 22 → AllOn q b (numbersOf cs) → readList (codesOf cs) (numbersOf cs) ≡ accepted cs
+grid-read q b cs B X = commands-read cs (all-within q b (numbersOf cs) B X)
+
 judged : (q b : ℕ) (cs : List PathCommand) → b ≤ 22 → AllOn q b (numbersOf cs) → judgeList (codesOf cs) (numbersOf cs) ≡ checked (lengthCheck (length cs)) (accepted cs)
 unfolding judgeList
-judged q b cs B X = ap₂ (λ (n : ℕ) (o : Outcome (List PathCommand)). checked (lengthCheck n) o) (codes-length cs) (commands-read cs (all-within q b (numbersOf cs) B X))
+judged q b cs B X = ap₂ (λ (n : ℕ) (o : Outcome (List PathCommand)). checked (lengthCheck n) o) (codes-length cs) (grid-read q b cs B X)
 
 -- what is told of the list asked for command j, whatever its commands are
 asked-alike : {A : Type 0} (a : A) (j n : ℕ) (cs cs' : List PathCommand)

@@ -1,10 +1,11 @@
 -- Commands that are written as codes and numbers are read back as themselves, and an accepted list is its commands written so.
 -- Assumes nothing.
-use mathlib.Core.Path.{_≡_, refl, sym, ap, _∙_}
-use mathlib.Core.Bool.{true, and-eq-true-iff}
+use mathlib.Core.Path.{_≡_, refl, sym, ap, ap₂, _∙_}
+use mathlib.Core.Bool.{true, not, _&&_, and-eq-true-iff}
 use mathlib.Core.List.{List, [], _∷_, _++_}
 use Prim.Native.Nat.{ℕ, _≤_}
 use native.Mathlib.Omega.{arith}
+use lib.Dec.{eqb}
 use lib.Ieee.{Float}
 use lib.ListN.{length, take, drop, take-append-drop}
 use lib.Seq.{drop-append-seam}
@@ -14,8 +15,8 @@ use Rattle.ieee.proofs.Each.{within-append}
 use Rattle.command.specs.declared.PathCommand.{PathCommand}
 use Rattle.command.specs.declared.Refusal.the-variants.{OutOfBounds}
 use Rattle.command.specs.Commands.{codeOf, coordinatesOf, codesOf, numbersOf, commandLimit}
-use Rattle.command.specs.Outcomes.{Outcome, accepted, andThen, listOf}
-use Rattle.command.proofs.Outcomes.{refused-accepted}
+use Rattle.command.specs.Outcomes.{Outcome, accepted, andThen, listOf, _gives_}
+use Rattle.command.proofs.Outcomes.{refused-accepted, checks-passed}
 use Rattle.command.proofs.Lists.{codes-length}
 use Rattle.reader.specs.Read.{sizeOfCode}
 use Rattle.reader.proofs.Commands.{size-of, command-read, accepted-read, code-at, coordinates-at}
@@ -45,13 +46,14 @@ pub list-judged : (cs : List PathCommand) → length cs ≤ 262144 → allWithin
 unfolding judgeList
 list-judged cs few within = rw (codes-length cs, le-ltb 262144 (length cs) few) (commands-read cs within)
 
-read-none : readList [] [] ≡ accepted []
+-- of no codes no commands are read
+pub none-read : (v : List Float) (ps : List PathCommand) → readList [] v ≡ accepted ps → ps ≡ []
 unfolding readList
-read-none = refl
+none-read v ps e = sym (ap listOf (checks-passed ((not (eqb (length v) 0) gives OutOfBounds) ∷ []) (accepted []) ps e .1))
 
 -- what is read of an accepted list, written again
 pub read-written : (codes : List ℕ) (v : List Float) (ps : List PathCommand) → readList codes v ≡ accepted ps → (codesOf ps ≡ codes) × (numbersOf ps ≡ v)
-read-written [] [] ps e = let none : [] ≡ ps = ap listOf (sym read-none ∙ e) in (sym (ap codesOf none), sym (ap numbersOf none))
+read-written [] [] ps e = (ap codesOf (none-read [] ps e), ap numbersOf (none-read [] ps e))
 read-written [] (x ∷ v) ps e = refused-accepted OutOfBounds ps (sym (left-over (x ∷ v) (λ z. omega arith)) ∙ e)
 read-written (c ∷ cs) v ps e =
     let f = front c cs v ps e in
@@ -66,3 +68,16 @@ read-written (c ∷ cs) v ps e =
           ∙ ap (λ (l : List Float). take (sizeOfCode c) v ++ l) (i .1)
           ∙ take-append-drop (sizeOfCode c) v,
     )
+
+-- every number of an accepted list is within the limit
+pub read-within : (codes : List ℕ) (v : List Float) (ps : List PathCommand) → readList codes v ≡ accepted ps → allWithin commandLimit (numbersOf ps) ≡ true
+unfolding allWithin
+read-within [] v ps e = ap (λ (qs : List PathCommand). allWithin commandLimit (numbersOf qs)) (none-read v ps e)
+read-within (c ∷ cs) v ps e =
+    let f = front c cs v ps e in
+    let a = accepted-read c v (f .command) (f .read-is) in
+    ap (λ (qs : List PathCommand). allWithin commandLimit (numbersOf qs)) (f .is)
+    ∙ within-append commandLimit (coordinatesOf (f .command)) (numbersOf (f .rest))
+    ∙ ap₂ _&&_
+    (ap (λ (p : PathCommand). allWithin commandLimit (coordinatesOf p)) (a .is) ∙ ap (allWithin commandLimit) (coordinates-at c v (a .listed) (a .inside)) ∙ a .within)
+    (read-within cs (drop (sizeOfCode c) v) (f .rest) (f .rest-is))

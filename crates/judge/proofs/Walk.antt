@@ -8,7 +8,7 @@ use native.Mathlib.Numerals.{add-one}
 use native.Mathlib.Omega.{arith}
 use lib.Ieee.{Float}
 use lib.ListN.{length, getD, drop, length-drop, drop-of-length-le}
-use lib.Seq.{drop-cons, drop-drop}
+use lib.Seq.{drop-cons}
 use borrow.Author.Tests.{eq-eqb, ne-eqb, lt-ltb, le-ltb}
 use Rattle.command.specs.declared.PathCommand.{PathCommand}
 use Rattle.command.specs.declared.Refusal.{Refusal}
@@ -17,7 +17,7 @@ use Rattle.command.specs.Outcomes.{Outcome, refused, accepted, mapped, andThen}
 use Rattle.reader.specs.declared.Read.{Read}
 use Rattle.reader.specs.declared.Read.the-variants.{Refused, Command}
 use Rattle.reader.specs.Read.{sizeOfCode, readCommand, readOf, readFrom}
-use Rattle.reader.proofs.Commands.{refused-from, accepted-from, accepted-read}
+use Rattle.reader.proofs.Commands.{Taken, read-refused, read-taken}
 use Rattle.judge.specs.Lists.{inFront, readList, judgeList}
 
 -- after the last command
@@ -25,7 +25,7 @@ pub left-over : (u : List Float) → (length u ≡ 0 → ⊥) → readList [] u 
 unfolding readList
 left-over u e = rw (ne-eqb (length u) 0 e)
 
-none-over : (u : List Float) → length u ≡ 0 → readList [] u ≡ accepted []
+pub none-over : (u : List Float) → length u ≡ 0 → readList [] u ≡ accepted []
 unfolding readList
 none-over u e = rw (eq-eqb (length u) 0 e)
 
@@ -63,21 +63,23 @@ module _ {S B : Type 0} (fold : S → List PathCommand → B) (codes : List ℕ)
 
       pub walk-refused : length codes ≤ 262144 → (r : Refusal) → read ≡ Refused r → refused r ≡ mapped (fold first) (judgeList codes numbers)
       walk-refused few r e =
-          let off : readCommand c v ≡ refused r = refused-from c numbers place r (sym (ap readOf e) ∙ read-is) in
-          sym (ap (λ (o : Outcome PathCommand). mapped (fold now) (andThen o (inFront rest))) off) ∙ here ∙ list-few few
+          sym (ap (λ (o : Outcome PathCommand). mapped (fold now) (andThen o (inFront rest))) (read-refused c numbers place read read-is r e))
+          ∙ here
+          ∙ list-few few
 
       module _ (p : PathCommand) (next : ℕ) (e : read ≡ Command p next) where
-        on : (readCommand c v ≡ accepted p) × (next ≡ place + sizeOfCode c)
-        on = accepted-from c numbers place (p, next) (sym (ap readOf e) ∙ read-is)
+        taken : Taken c numbers place p next
+        taken = read-taken c numbers place read read-is (left .inside) p next e
 
         -- a state whose fold is that of the state before with the command in front
         pub walk-next : (then : S) → ((cs : List PathCommand) → fold then cs ≡ fold now (p ∷ cs)) → (j : ℕ) → j ≡ i + 1 → Left then j next
         walk-next then on-it j j-is =
-            let A = accepted-read c v p (on .0) in
-            rw (j-is, on .1, add-one)
+            rw (j-is, add-one)
             (record {
-              inside = let l = A .inside in omega (arith, left .inside, length-drop place numbers);
-              whole = rw (← drop-drop (sizeOfCode c) place numbers) (sym (one rest) ∙ ap (λ (o : Outcome PathCommand). mapped (fold now) (andThen o (inFront rest))) (sym (on .0)) ∙ here);
+              inside = taken .inside;
+              whole =
+                  rw (taken .rest)
+                  (sym (one rest) ∙ ap (λ (o : Outcome PathCommand). mapped (fold now) (andThen o (inFront rest))) (sym (taken .read-is)) ∙ here);
             })
           where
             one : (o : Outcome (List PathCommand)) → mapped (fold now) (inFront o p) ≡ mapped (fold then) o

@@ -3,12 +3,13 @@ use mathlib.Core.Path.{_≡_, refl, sym, ap, _∙_}
 use mathlib.Core.Bool.{Bool, true, false, cond}
 use mathlib.Core.List.{List, [], _∷_, _++_, append-nil}
 use Prim.Native.Nat.{ℕ, zero, suc, _+_, _≤_}
+use native.Mathlib.Nat.{lt-of-not-le, not-le-of-lt}
 use native.Mathlib.Omega.{arith}
 use lib.Dec.{eqb, ltb}
 use lib.Ieee.{Float}
-use lib.ListN.{length, take, drop, length-append}
-use lib.Seq.{take-append-seam}
-use borrow.Author.Tests.{le-ltb, ltb-false, not-false}
+use lib.ListN.{length, take, drop, length-append, length-drop, take-append-drop}
+use lib.Seq.{take-append-seam, length-take-le, drop-drop}
+use borrow.Author.Tests.{lt-ltb, le-ltb, ltb-true, ltb-false, not-false}
 use Rattle.ieee.specs.Limit.{allWithin}
 use Rattle.command.specs.declared.PathCommand.{PathCommand}
 use Rattle.command.specs.declared.PathCommand.the-variants.{Move, Line, Cubic, Close, Quad}
@@ -16,7 +17,9 @@ use Rattle.command.specs.Commands.{codeOf, coordinatesOf, commandLimit}
 use Rattle.command.specs.declared.Refusal.{Refusal}
 use Rattle.command.specs.Outcomes.{Outcome, refused, accepted, mapped, valueOr}
 use Rattle.command.proofs.Outcomes.{refused-accepted, checks-passed}
-use Rattle.reader.specs.Read.{sizeOfCode, commandAt, commandChecks, readCommand, readFrom}
+use Rattle.reader.specs.declared.Read.{Read}
+use Rattle.reader.specs.declared.Read.the-variants.{Refused, Command}
+use Rattle.reader.specs.Read.{sizeOfCode, commandAt, commandChecks, readCommand, readFrom, readOf}
 
 pub size-of : (c : PathCommand) → sizeOfCode (codeOf c) ≡ length (coordinatesOf c)
 unfolding sizeOfCode
@@ -122,12 +125,34 @@ command-part c v h l =
     ∙ ap (commandAt (codeOf (commandAt c v))) (sym (append-nil (coordinatesOf (commandAt c v))))
     ∙ command-of (commandAt c v) []
 
+-- so lists that have these numbers in common have one answer
+pub long-alike : {A : Type 0} (n : ℕ) (v w : List A) → take n v ≡ take n w → n ≤ length v → n ≤ length w
+long-alike n v w e h = omega (arith, ap length e, length-take-le n v h, simp length-append at (ap length (take-append-drop n w)))
+
+front-by : (c : ℕ) (v w : List Float) → take (sizeOfCode c) v ≡ take (sizeOfCode c) w
+    → (unlisted short : Bool) → ltb 4 c ≡ unlisted → ltb (length v) (sizeOfCode c) ≡ short
+    → readCommand c v ≡ readCommand c w
+unfolding readCommand commandChecks
+front-by c v w e true short a b = rw a
+front-by c v w e false true a b =
+    let never : sizeOfCode c ≤ length w → ⊥ = λ g. not-le-of-lt (ltb-true (length v) (sizeOfCode c) b) (long-alike (sizeOfCode c) w v (sym e) g) in
+    rw (a, b, lt-ltb (length w) (sizeOfCode c) (lt-of-not-le never))
+front-by c v w e false false a b =
+    let l : sizeOfCode c ≤ length v = ltb-false (length v) (sizeOfCode c) b in
+    let m : sizeOfCode c ≤ length w = long-alike (sizeOfCode c) v w e l in
+    let h : c ≤ 4 = ltb-false 4 c a in
+    let same : commandAt c v ≡ commandAt c w = sym (command-part c v h l) ∙ ap (commandAt c) e ∙ command-part c w h m in
+    rw (a, b, le-ltb (length w) (sizeOfCode c) m, e, same)
+
+pub read-front : (c : ℕ) (v w : List Float) → take (sizeOfCode c) v ≡ take (sizeOfCode c) w → readCommand c v ≡ readCommand c w
+read-front c v w e = front-by c v w e (ltb 4 c) (ltb (length v) (sizeOfCode c)) refl refl
+
 -- ---- what reading from a place found
 module _ (code : ℕ) (numbers : List Float) (place : ℕ) where
   abbrev after : PathCommand → PathCommand × ℕ
   after c = (c, place + sizeOfCode code)
 
-  pub refused-from : (r : Refusal) → refused r ≡ readFrom code numbers place → readCommand code (drop place numbers) ≡ refused r
+  refused-from : (r : Refusal) → refused r ≡ readFrom code numbers place → readCommand code (drop place numbers) ≡ refused r
   unfolding readFrom
   refused-from r e = go (readCommand code (drop place numbers)) e
     where
@@ -135,7 +160,7 @@ module _ (code : ℕ) (numbers : List Float) (place : ℕ) where
       go (refused q) e = cc
       go (accepted c) e = refused-accepted r (after c) e
 
-  pub accepted-from : (at : PathCommand × ℕ) → accepted at ≡ readFrom code numbers place
+  accepted-from : (at : PathCommand × ℕ) → accepted at ≡ readFrom code numbers place
       → (readCommand code (drop place numbers) ≡ accepted (at .0)) × (at .1 ≡ place + sizeOfCode code)
   unfolding readFrom
   accepted-from at e = go (readCommand code (drop place numbers)) e
@@ -145,3 +170,23 @@ module _ (code : ℕ) (numbers : List Float) (place : ℕ) where
       go (accepted c) e =
           let same : at ≡ after c = ap (valueOr at) e in
           (sym (ap (λ (x : PathCommand × ℕ). accepted (x .0)) same), ap (λ (x : PathCommand × ℕ). x .1) same)
+
+  -- a command that is read, with the place after it as a `Read` has them
+  pub record Taken (command : PathCommand) (next : ℕ) : Type 0 where
+    pub read-is : readCommand code (drop place numbers) ≡ accepted command
+    pub inside : next ≤ length numbers
+    pub rest : drop next numbers ≡ drop (sizeOfCode code) (drop place numbers)
+
+  module _ (read : Read) (is : readOf read ≡ readFrom code numbers place) where
+    pub read-refused : (r : Refusal) → read ≡ Refused r → readCommand code (drop place numbers) ≡ refused r
+    read-refused r e = refused-from r (sym (ap readOf e) ∙ is)
+
+    pub read-taken : place ≤ length numbers → (command : PathCommand) (next : ℕ) → read ≡ Command command next → Taken command next
+    read-taken h command next e =
+        let on = accepted-from (command, next) (sym (ap readOf e) ∙ is) in
+        let l = accepted-read code (drop place numbers) command (on .0) .inside in
+        record {
+          read-is = on .0;
+          inside = rw (on .1) (omega (arith, length-drop place numbers));
+          rest = rw (on .1) (sym (drop-drop (sizeOfCode code) place numbers));
+        }
