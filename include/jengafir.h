@@ -147,6 +147,17 @@ uint32_t jengafir_merge_need(const uint32_t *rows, size_t rows_len, size_t row_c
 uint32_t jengafir_length(const uint8_t *codes, size_t codes_len, const float *numbers, size_t numbers_len,
                          float *length);
 
+/* Tells whether a path is at least `least` long: `reached` is 1 for yes and 0 for no, and `commands_read` says how many
+   commands were read to tell. The reply is yes after the fewest commands, from the first on, whose length by themselves
+   is at least `least`. What lies past them is not read: neither faults nor numbers left over are seen. The reply is no
+   after all commands. A `least` of 0 is a yes after no command, whatever the list holds. Of a list that jengafir_length
+   accepts, the reply is what comparing its length with `least` gives.
+   Refuses over 262,144 commands with 2; then a `least` that is negative or not finite with 3, where -0 is 0; then the
+   list as jengafir_length does, by a fault that is met before a yes.
+   On a refusal `commands_read` is 0, and `reached` keeps its content. */
+uint32_t jengafir_length_reaches(const uint8_t *codes, size_t codes_len, const float *numbers, size_t numbers_len,
+                                 float least, uint32_t *reached, size_t *commands_read);
+
 /* Tells where the numbers of command `k` stand in the list: the first place and how many there are, which for a close
    is none. The first command is 0. Refuses a sound list that has no command `k` with 12.
    On a refusal both are 0. */

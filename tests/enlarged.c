@@ -1,8 +1,9 @@
 /* Calls every function of the C interface that the promise about sizes names on a drawing and on the same drawing
-   enlarged 2 to 64 times: results, counts, codes, ranges, orders and opacities are the same, and coordinates, lengths,
-   cut lengths and shifts are multiplied exactly, a zero keeping its sign. */
+   enlarged 2 to 64 times: results, replies, counts, codes, ranges, orders and opacities are the same, and coordinates,
+   lengths, cut lengths and shifts are multiplied exactly, a zero keeping its sign. */
 #include "jengafir.h"
 
+#include <math.h>
 #include <stdio.h>
 #include <string.h>
 
@@ -130,7 +131,50 @@ static int is_merge_need(size_t row_count, const float *numbers, const Drawing *
     return is_need(drawing, result, n, m);
 }
 
-/* The calls that read a command list: the length, each command's numbers, and the cut lengths of some trims. */
+typedef struct {
+    uint32_t result, reached;
+    size_t commands_read;
+} Reply;
+
+static Reply length_reaches(const Drawing *drawing, float least)
+{
+    Reply reply = {9, 9, 9};
+    reply.result = jengafir_length_reaches(drawing->codes, drawing->code_count, drawing->numbers,
+                                           drawing->number_count, least, &reply.reached, &reply.commands_read);
+    return reply;
+}
+
+/* The float above a number that is not negative. */
+static float next_above(float x)
+{
+    uint32_t pattern;
+    memcpy(&pattern, &x, sizeof x);
+    pattern++;
+    memcpy(&x, &pattern, sizeof x);
+    return x;
+}
+
+/* Whether each is long enough, for parts of the length, what is just and far above it, and what is no length. */
+static void reach(const Drawing *small, const Drawing *large, float length, int factor)
+{
+    const float least[] = {
+        0, -0.0f, 0x1p-20f, length / 8, length * 0.3f, length / 2, length * 0.9f, length, next_above(length),
+        0x1p120f, -0x1p-20f, -length, -INFINITY, INFINITY, NAN,
+    };
+    for (size_t i = 0; i < COUNT(least); i++) {
+        Reply reply = length_reaches(small, least[i]), large_reply = length_reaches(large, least[i] * (float)factor);
+        expect(reply.result == large_reply.result && reply.reached == large_reply.reached &&
+                   reply.commands_read == large_reply.commands_read,
+               "jengafir_length_reaches", factor);
+    }
+    /* Only a length whose multiple is infinite is another matter: it is not reached, and the multiple is no length. */
+    expect(length_reaches(small, 0x1p127f).result == JENGAFIR_ACCEPTED &&
+               length_reaches(large, 0x1p127f * (float)factor).result == JENGAFIR_OUT_OF_RANGE,
+           "jengafir_length_reaches, a multiple that is infinite", factor);
+}
+
+/* The calls that read a command list: the length, whether it is enough, each command's numbers, and the cut lengths of
+   some trims. */
 static void measure(const Drawing *small, const Drawing *large, int factor)
 {
     static const float trims[][3] = {{0, 100, 0}, {25, 75, 0}, {0, 62.5f, -90}, {30, 30, 0}, {10.3f, 99.9f, 300.7f}};
@@ -140,6 +184,7 @@ static void measure(const Drawing *small, const Drawing *large, int factor)
         jengafir_length(large->codes, large->code_count, large->numbers, large->number_count, &large_length);
     expect(result == JENGAFIR_ACCEPTED && large_result == result && multiplied(&length, &large_length, 1, factor),
            "jengafir_length", factor);
+    reach(small, large, length, factor);
 
     for (size_t k = 0; k <= small->code_count; k++) {
         size_t start, count, large_start, large_count;

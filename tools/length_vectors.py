@@ -1,24 +1,26 @@
 #!/usr/bin/env python3
-"""Makes the test vectors of lengths and single commands.
+"""Makes the test vectors of lengths, single commands and lengths that are reached.
 
 It writes crates/vectors_length/stdin, one call a line, and crates/vectors_length/stdout, what each
-call answers. The expected values come from document 01's rules on exact numbers; the roundings are
-those of float_vectors.py, and no floating-point number is computed with here. The sample of the
-Rust's answers in oracle/samples follows them.
+call answers. The expected values come from the rules of documents 01 and 02 on exact numbers; the
+roundings are those of float_vectors.py, and no floating-point number is computed with here. The
+sample of the Rust's answers in oracle/samples follows them.
 
 A line of stdin is a word and numbers of 8 hexadecimal digits each, one blank before each number:
 
     measure CODES NUMBERS GIVEN C.. X..
     command K CODES NUMBERS GIVEN C.. X..
+    reach L CODES NUMBERS GIVEN C.. X..
 
 CODES and NUMBERS are the lengths of the lists. The codes C, of which there are GIVEN, fill the
-first list over and over, and the patterns X the second.
+first list over and over, and the patterns X the second. L is the pattern of the length to reach.
 
 In stdout each line of stdin is followed by the answer. For a measure that is 'length' with the
 length's pattern, or 'refused' with the refusal's number. For a command it is two lines: 'numbers'
 with the place of the first and how many they are, or 'refused' with the number; and then 'fault'
 with the number that is handed back beside the part, 0 for an answer, 'part' with how many numbers
-the part has, and their patterns.
+the part has, and their patterns. For a reach it is 'yes' or 'no' with how many commands were read,
+or 'refused' with the number.
 
     python3 tools/length_vectors.py            write both files
     python3 tools/length_vectors.py --check    compare both files; exit 1 where one differs
@@ -28,8 +30,8 @@ from fractions import Fraction
 
 from draw_vectors import CLOSE, CUBIC, LINE, MOVE, at_most, bezier_path, mul, rect_path, sub, vertices
 from float_vectors import (
-    A_NAN, INFINITY, LARGEST, LARGEST_SUBNORMAL, ONE, SIGN, SMALLEST_NORMAL, TINIEST, ZERO,
-    Random, absolute, add, both_signs, decode, encode, hypot, mul_add, of, rounded,
+    A_NAN, INFINITE, INFINITY, LARGEST, LARGEST_SUBNORMAL, NAN, ONE, SIGN, SMALLEST_NORMAL, TINIEST, ZERO,
+    Random, absolute, add, around, both_signs, decode, encode, hypot, mul_add, of, rounded, size_of,
 )
 from vector_files import keep
 
@@ -122,9 +124,26 @@ def path_length(commands):
     return length
 
 
+def first_length(codes, numbers, n):
+    """The length of the first n commands as a list by themselves; None where they are not sound."""
+    codes = codes[:n]
+    commands = judged(codes, numbers[:sum(SIZES.get(code, 0) for code in codes)])
+    return None if isinstance(commands, int) else path_length(commands)
+
+
+def is_length(x):
+    return size_of(x) not in (NAN, INFINITE) and at_most(decode(ZERO), x)
+
+
+# Answers. An outcome is the commands of a list, or the number of its refusal.
+
+def refused(number):
+    return "refused %d\n" % number
+
+
 def measure_answer(outcome):
     if isinstance(outcome, int):
-        return "refused %d\n" % outcome
+        return refused(outcome)
     return "length %08x\n" % encode(path_length(outcome))
 
 
@@ -132,10 +151,22 @@ def command_answer(k, outcome):
     if not isinstance(outcome, int) and k >= len(outcome):
         outcome = 12
     if isinstance(outcome, int):
-        return "refused %d\nfault %d part 0\n" % (outcome, outcome)
+        return refused(outcome) + "fault %d part 0\n" % outcome
     start, part = sum(SIZES[code] for code, _ in outcome[:k]), outcome[k][1]
     return "numbers %d %d\nfault 0 part %d%s\n" % (
         start, len(part), len(part), "".join(" %08x" % encode(x) for x in part))
+
+
+def reach_answer(least, lengths, outcome):
+    """The answer of document 02: the fewest commands, by the lengths of the first 0, 1, 2 .., or the outcome of all."""
+    if outcome == 2:
+        return refused(2)
+    if not is_length(least):
+        return refused(3)
+    for n, length in enumerate(lengths):
+        if length is not None and at_most(least, length):
+            return "yes %d\n" % n
+    return refused(outcome) if isinstance(outcome, int) else "no %d\n" % len(outcome)
 
 
 # Lists: the codes and the patterns that are given, and how many of each are lent.
@@ -149,9 +180,18 @@ class Commands:
 
     def __init__(self, codes, patterns, count=None, length=None):
         self.given = (codes, patterns)
-        codes = lent(codes, len(codes) if count is None else count)
-        self.lengths = (len(codes), len(patterns) if length is None else length)
-        self.outcome = judged(codes, [decode(p) for p in lent(patterns, self.lengths[1])])
+        self.codes = lent(codes, len(codes) if count is None else count)
+        self.numbers = [decode(p) for p in lent(patterns, len(patterns) if length is None else length)]
+        self.lengths = (len(self.codes), len(self.numbers))
+        self.outcome = judged(self.codes, self.numbers)
+        self.measured_lengths = []
+
+    def first_lengths(self):
+        """The lengths of the first 0, 1, 2 .. commands, each measured by itself, and once."""
+        for n in range(len(self.codes) + 1):
+            if n == len(self.measured_lengths):
+                self.measured_lengths.append(first_length(self.codes, self.numbers, n))
+            yield self.measured_lengths[n]
 
     def line(self, word, *header):
         codes, patterns = self.given
@@ -168,6 +208,11 @@ class Commands:
         """The same for command k."""
         line = self.line("command", k)
         return line, line + command_answer(k, self.outcome)
+
+    def reached(self, least):
+        """The same for the pattern of a length."""
+        line = self.line("reach", least)
+        return line, line + reach_answer(decode(least), self.first_lengths(), self.outcome)
 
 
 def filled(codes, patterns):
@@ -356,6 +401,75 @@ def asked(rng):
     yield (Commands([CLOSE], [], count=MOST_COMMANDS + 1), (0, MOST_COMMANDS, MOST_COMMANDS + 1))
 
 
+SQUARE = filled([MOVE, LINE, LINE, LINE, CLOSE], numbers_of(0, 0, 4, 0, 4, 4, 0, 4))
+FIVE = numbers_of(0, 0, 3, 4)
+FIVE_AND_UNLISTED = Commands([MOVE, LINE, 77], FIVE + [A_NAN])
+
+
+def turns(commands):
+    """The patterns of the lengths at which a list's reply turns, with their neighbours."""
+    lengths = [encode(length) for length in commands.first_lengths() if length is not None]
+    return [pattern for length in dict.fromkeys(lengths) for pattern in around(length)]
+
+
+def turning(rng):
+    """Lists whose replies are asked for where they turn: contours that come and go, curves, and tiny and large ones."""
+    low = LIMIT_PATTERN | SIGN
+    for letters in ("LLZLL", "MLZZL", "MLLMZL", "CZQL"):
+        yield filled(["MLCZQ".index(letter) for letter in letters], POINTS)
+    yield filled(EVERY_KIND, EVERY_KIND_PATTERNS)
+    yield filled([MOVE, LINE, LINE, QUAD], numbers_of(0, 0, 3, 4, 3, 4, 3, 4, 3, 4))
+    yield filled([MOVE, LINE, CUBIC], [TINIEST, ZERO, ZERO, 3, 5, 7, 11, 13])
+    yield filled([MOVE, LINE, LINE], [LARGEST_SUBNORMAL, ZERO, SMALLEST_NORMAL, TINIEST, ZERO, SIGN])
+    yield filled([MOVE, LINE, LINE, CLOSE], [low, LIMIT_PATTERN, LIMIT_PATTERN])
+    # A line that is too short to be seen beside the length so far.
+    yield filled([MOVE, LINE, LINE, LINE], numbers_of(0, 0, 2**22, 0, 2**22, Fraction(1, 8), 2**22, 1))
+    for _ in range(3):
+        codes = [MOVE] + [rng.between(0, 4) for _ in range(4)]
+        yield filled(codes, [rng.pattern(-6, 6) for _ in range(5)])
+
+
+def stopping():
+    """Lists that are 5 long after two commands, and faulty or with numbers left over after them."""
+    bad = [A_NAN]
+    yield Commands([MOVE, LINE, UNLISTED], FIVE)
+    yield from (Commands([MOVE, LINE, code], FIVE + [ONE] * (SIZES[code] - 1)) for code in (MOVE, LINE, CUBIC, QUAD))
+    yield Commands([MOVE, LINE, CUBIC, UNLISTED], FIVE + bad * 5)
+    yield from (Commands([MOVE, LINE, LINE], FIVE + [ONE, pattern]) for pattern in REFUSED[1::3])
+    yield Commands([MOVE, LINE, LINE], FIVE + bad * 3)
+    yield Commands([MOVE, LINE, CLOSE], FIVE + [ONE])
+    yield from (Commands([MOVE, LINE], FIVE + more) for more in ([ONE], bad, bad * 7))
+    # The fault is in the line that would reach 5, or before it.
+    yield Commands([MOVE, LINE, LINE], FIVE[:3] + bad + FIVE[2:])
+    yield Commands([MOVE, LINE], FIVE[:3])
+    yield Commands([MOVE, UNLISTED, LINE], FIVE)
+    yield Commands([UNLISTED, MOVE, LINE], FIVE)
+    yield Commands([LINE], bad)
+    yield Commands([], [ONE])
+
+
+def no_lengths():
+    """Patterns of numbers that are no length, and of both zeros."""
+    negative = [pattern | SIGN for pattern in (TINIEST, SMALLEST_NORMAL, ONE, LARGEST, INFINITY, A_NAN)]
+    return [ZERO, SIGN, INFINITY, INFINITY + 1, A_NAN, LARGEST_U32] + negative
+
+
+def reached(rng):
+    """Lists and the lengths that they are to reach."""
+    yield (SQUARE, (*numbers_of(0, 4, 16), of(16) + 1))
+    yield (FIVE_AND_UNLISTED, (*numbers_of(0, 5, Fraction(11, 2)), *no_lengths(), TINIEST, LARGEST))
+    yield (SQUARE, (*turns(SQUARE), *no_lengths(), TINIEST, LARGEST_SUBNORMAL, SMALLEST_NORMAL, ONE, LARGEST))
+    yield (Commands([], []), (ZERO, SIGN, TINIEST, LARGEST, A_NAN))
+    yield from ((commands, (*turns(commands), LARGEST)) for commands in turning(rng))
+    yield from ((commands, (ZERO, of(5), of(5) + 1)) for commands in stopping())
+    yield (Commands([MOVE, LINE], FIVE, count=60, length=120), (*numbers_of(5, 75, 150), of(150) + 1))
+    # Of too many commands nothing else is told, and of the most commands 0 is reached by none.
+    many = [Commands([code], [ONE], count=MOST_COMMANDS + 1, length=7) for code in (CLOSE, UNLISTED)]
+    yield from ((commands, (ZERO, ONE, A_NAN, ONE | SIGN)) for commands in many)
+    most = [Commands([code], [A_NAN], count=MOST_COMMANDS, length=7) for code in (CLOSE, UNLISTED)]
+    yield from ((commands, (ZERO, SIGN, A_NAN, INFINITY)) for commands in most)
+
+
 def vectors():
     """Every call, as its line of stdin and its lines of stdout."""
     rng = Random(20240302)
@@ -365,6 +479,7 @@ def vectors():
     ):
         yield from (commands.measured() for commands in lists)
     yield from (commands.asked(k) for commands, places in asked(rng) for k in places)
+    yield from (commands.reached(least) for commands, lengths in reached(rng) for least in lengths)
 
 
 def texts():

@@ -33,7 +33,7 @@ from float_vectors import (
 )
 from length_vectors import (
     EVERY_KIND, EVERY_KIND_PATTERNS, LIMIT_PATTERN, MOST_COMMANDS, QUAD, UNLISTED,
-    Commands, drawn, filled, numbers_of, path_length,
+    Commands, drawn, filled, numbers_of, path_length, refused,
 )
 from vector_files import keep
 
@@ -93,10 +93,6 @@ def is_finite(trim):
 
 
 # Answers.
-
-def refused(number):
-    return "refused %d\n" % number
-
 
 def answered(segments, numbers):
     places = [encode(x) for x in numbers] + [OLD_NUMBER] * (PLACES - len(numbers))

@@ -1,7 +1,7 @@
 //! Times the length of command lists, through the C interface, against the Rust's own function over its stand-ins,
-//! and finding a command, for which Rust has no function.
+//! whether it is enough against a comparison of that, and finding a command, for which Rust has no function.
 
-use crate::interface::{jengafir_command, jengafir_length};
+use crate::interface::{jengafir_command, jengafir_length, jengafir_length_reaches};
 use crate::timing::{alone, compare, Unit};
 use crate::unit_numbers;
 use source::Path;
@@ -10,6 +10,11 @@ const COMMANDS: usize = 1_024;
 const LISTS: usize = 16;
 /// Of a list the commands after its move are counted.
 pub const A_COMMAND: Unit = ("command", COMMANDS);
+const A_CALL: Unit = ("call", 1);
+
+/// A length that no list here has, and one that each has after its first cubic.
+const TOO_LONG: f32 = f32::MAX;
+const SHORT: f32 = 1.0;
 
 const LINE: u8 = 1;
 const CUBIC: u8 = 2;
@@ -45,6 +50,32 @@ fn length(list: &Path) -> u32 {
     length.to_bits()
 }
 
+/// Whether a list is at least so long, and how many commands were read.
+fn reaches(list: &Path, least: f32) -> [u32; 2] {
+    let (mut reached, mut read) = (0, 0);
+    let (codes, numbers) = (&list.codes, &list.numbers);
+    let refusal = unsafe {
+        jengafir_length_reaches(
+            codes.as_ptr(),
+            codes.len(),
+            numbers.as_ptr(),
+            numbers.len(),
+            least,
+            &mut reached,
+            &mut read,
+        )
+    };
+    assert_eq!(refusal, 0);
+    [reached, read as u32]
+}
+
+/// How many commands are read up to the first cubic.
+fn reaches_at_once(list: &Path) -> u32 {
+    let [reached, read] = reaches(list, SHORT);
+    assert_eq!([reached, read], [1, 2]);
+    read
+}
+
 /// Where the numbers of the last command stand.
 fn last_command(list: &Path) -> u32 {
     let (mut start, mut count) = (0, 0);
@@ -69,6 +100,13 @@ pub fn run() {
         let theirs = |list: &Path| source::path_length(list).to_bits();
         compare(&format!("length, {name}"), A_COMMAND, &lists(code), length, theirs);
     }
+    for (name, code) in KINDS {
+        let ours = |list: &Path| reaches(list, TOO_LONG)[0];
+        let theirs = |list: &Path| (source::path_length(list) >= TOO_LONG) as u32;
+        compare(&format!("reaches, {name}"), A_COMMAND, &lists(code), ours, theirs);
+    }
+    // Rust measures a list whole, as in the lines before: it has no function that stops, and so no time here.
+    alone("reaches first cubic", A_CALL, &lists(CUBIC), reaches_at_once);
     for (name, code) in KINDS {
         alone(&format!("command, {name}"), A_COMMAND, &lists(code), last_command);
     }

@@ -70,6 +70,15 @@ extern "C" {
         numbers_len: usize,
         length: *mut f32,
     ) -> u32;
+    pub fn jengafir_length_reaches(
+        codes: *const u8,
+        codes_len: usize,
+        numbers: *const f32,
+        numbers_len: usize,
+        least: f32,
+        reached: *mut u32,
+        commands_read: *mut usize,
+    ) -> u32;
     pub fn jengafir_command(
         codes: *const u8,
         codes_len: usize,

@@ -19,6 +19,8 @@ mod need;
 mod plate;
 mod random;
 #[cfg(drawing)]
+mod reach;
+#[cfg(drawing)]
 mod repeater;
 mod report;
 mod root;
@@ -46,6 +48,8 @@ const PARTS: &[Part] = &[
     need::compare,
     #[cfg(drawing)]
     length::compare,
+    #[cfg(drawing)]
+    reach::compare,
     #[cfg(drawing)]
     curves::compare,
     #[cfg(drawing)]

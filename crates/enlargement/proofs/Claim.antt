@@ -1,13 +1,17 @@
 -- Every call answers a plate on the grid and the same plate enlarged alike, for each of the factors 2, 4, 8, 16, 32 and 64. Each law that is cited stands in the crate of the call.
 -- Assumes nothing.
 use mathlib.Core.Path.{_≡_, refl, sym, ap, ap₂, subst, _∙_}
+use mathlib.Core.Bool.{true}
 use mathlib.Core.List.{List, map}
 use Prim.Native.Nat.{ℕ, _+_, _≤_}
 use native.Mathlib.Omega.{arith}
-use lib.Dec.{lit≤}
-use lib.Ieee.{Float, nan, mul}
+use lib.Dec.{T, lit≤}
+use lib.Ieee.{Float, nan, binary32, mul}
+use lib.Ieee.Bits.{is-true}
+use lib.Ieee.Scale.{finite}
 use lib.ListN.{getD, length-map, List·getD-map}
 use Rattle.ieee.specs.Grid.{scale}
+use Rattle.ieee.proofs.Grid.{mul-pow-finite}
 use Rattle.command.specs.declared.PathCommand.{PathCommand}
 use Rattle.command.specs.Commands.{codesOf, numbersOf}
 use Rattle.command.specs.Outcomes.{Outcome, mapped}
@@ -22,6 +26,8 @@ use Rattle.judge.specs.Lists.{findCommand, commandFault, commandPart}
 use Rattle.judge.proofs.Enlarged.{found-twins, fault-twins, part-twins}
 use Rattle.length.specs.Lists.{measureList}
 use Rattle.length.proofs.Enlarged.{measured-twins}
+use Rattle.reach.specs.Reach.{lengthReaches}
+use Rattle.reach.proofs.Enlarged.{reach-twins}
 use Rattle.trim.specs.declared.Ranges.{Ranges}
 use Rattle.cut.specs.Answers.{rangesAnswer, lengthsAnswer}
 use Rattle.cut.specs.Enlarged.{CutsAlike}
@@ -56,6 +62,13 @@ module _ (k : ℕ) (K : k ≤ 6) (p p' : Plate) (G : PlateOnGrid p) (E : Enlarge
 
   numbers-enlarged : p' .numbers ≡ numbersOf cs'
   numbers-enlarged = E .numbers ∙ ap (map (times k)) (G .numbers-are) ∙ products k 35 16 (numbersOf cs) (lit≤ tt) (omega arith) (made-small cs (G .made)) ∙ sym (enlarged-numbers k cs)
+
+  -- the length that is asked for
+  least-enlarged : (finite (p .least) ≡ true → finite (p' .least) ≡ true) → p' .least ≡ scale k (p .least)
+  least-enlarged h =
+      E .least
+      ∙ mul-pow-finite binary32 k (p .least) (subst T (sym (G .least-single)) tt)
+      (λ t. subst (λ (x : Float). T (finite x)) (E .least) (subst T (sym (h (is-true (finite (p .least)) t))) tt))
 
   -- the repeater
   repeaters : RepeaterTwin k (p .repeater) (p' .repeater)
@@ -101,6 +114,9 @@ module _ (k : ℕ) (K : k ≤ 6) (p p' : Plate) (G : PlateOnGrid p) (E : Enlarge
         enlarged-need k (drawMerge (p .lent .rows) (p .lent .rowCount) (p .items)) (drawMerge (p' .lent .rows) (p' .lent .rowCount) (p' .items)) merge-drawn;
     length-measured =
         ap₂ measureList codes-enlarged numbers-enlarged ∙ measured-twins k 35 16 cs cs' (lit≤ tt) (omega arith) small lists ∙ ap (mapped (scale k)) (sym (ap₂ measureList codes-first (G .numbers-are)));
+    length-reached = λ h.
+        (λ i. lengthReaches (codes-enlarged i) (numbers-enlarged i) (least-enlarged h i)) ∙ reach-twins lists (lit≤ tt) (omega arith) small (p .least)
+        ∙ sym (λ i. lengthReaches (codes-first i) (G .numbers-are i) (p .least));
     command-found =
         (λ i. findCommand (codes-enlarged i) (numbers-enlarged i) (E .lent i .command)) ∙ found-twins lists small (p .lent .command)
         ∙ sym (λ i. findCommand (codes-first i) (G .numbers-are i) (p .lent .command));
@@ -149,6 +165,7 @@ enlarged-all k p = record {
   row = multiplied-all k (OfRow (itemRow (p .lent .row) 0)) (p .items);
   rows = multiplied-all k (OfMerge (p .lent .rows) (p .lent .rowCount)) (p .items);
   numbers = refl;
+  least = refl;
   repeater = refl;
 }
 

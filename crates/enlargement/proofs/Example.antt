@@ -36,6 +36,8 @@ use Rattle.measure.specs.Length as measure
 use Rattle.reader.specs.Read as reader
 use Rattle.judge.specs.Lists as judge
 use Rattle.length.specs.Lists.{measureList}
+use Rattle.reach.specs.Reach as reach
+use Rattle.reach.specs.Reach.{lengthReaches}
 use Rattle.trim.specs.Trim.{offsetOf, placedAt, snapped, near, nearBoth, isWhole, rangesBetween, lower, upper, normalizedTrimSegments}
 use Rattle.cut.specs.Cuts.{partOf}
 use Rattle.cut.specs.Calls.{isFiniteTrim, isTrimMode, cutMeasured, trimLengths}
@@ -54,6 +56,9 @@ three = ofBits binary32 0x4040_0000
 
 abbrev four : Float
 four = ofBits binary32 0x4080_0000
+
+abbrev seven : Float
+seven = ofBits binary32 0x40e0_0000
 
 abbrev ten : Float
 ten = ofBits binary32 0x4120_0000
@@ -96,6 +101,7 @@ plate = record {
   vertices = triangle;
   items = rectangles;
   numbers = numbersOf sides;
+  least = seven;
   repeater = record {
     copies = three;
     offset = zero32;
@@ -139,6 +145,7 @@ example-on-grid = record {
   made = of-vertices 1 3 triangle sides (all-on-grid _ triangle tt) triangle-drawn;
   codes-are = refl;
   numbers-are = refl;
+  least-single = refl;
   scale-x = refl;
   scale-y = refl;
   position-x = on-grid ten tt;
@@ -204,6 +211,21 @@ unfolding enlarge sub mul ofBits le hypotOf isqrt allWithin
     distance measure.startPen measure.moveTo measure.lineTo measure.close measure.step measure.steps measure.lengthAfter measure.pathLength
     reader.sizeOfCode reader.commandAt reader.commandChecks reader.readCommand judge.inFront judge.readList judge.judgeList measureList
 length-48 = refl
+
+-- 7 is reached by the second side, and so is 28
+reached-7 : lengthReaches (lent .codes) (plate .numbers) (plate .least) ≡ accepted (true, 3)
+unfolding sub ofBits le hypotOf isqrt allWithin
+    distance measure.startPen measure.moveTo measure.lineTo measure.close measure.step measure.steps measure.lengthAfter measure.pathLength
+    reader.sizeOfCode reader.commandAt reader.commandChecks reader.readCommand judge.inFront judge.readList judge.placeOf
+    reach.firstCommands reach.longEnough reach.oneMore reach.fewest reach.replied reach.isLength lengthReaches
+reached-7 = refl
+
+reached-28 : lengthReaches (lent .codes) (larger .numbers) (larger .least) ≡ accepted (true, 3)
+unfolding enlarge sub mul ofBits le hypotOf isqrt allWithin
+    distance measure.startPen measure.moveTo measure.lineTo measure.close measure.step measure.steps measure.lengthAfter measure.pathLength
+    reader.sizeOfCode reader.commandAt reader.commandChecks reader.readCommand judge.inFront judge.readList judge.placeOf
+    reach.firstCommands reach.longEnough reach.oneMore reach.fewest reach.replied reach.isLength lengthReaches
+reached-28 = refl
 
 -- the middle half of it is shown: 3, 6, 3, and 12, 24, 12
 cuts-12 : listOf (mapped toldNumbers (lengthsAnswer (lent .trim) (lent .codes) (plate .numbers))) ≡ three ∷ ofBits binary32 0x40c0_0000 ∷ three ∷ []

@@ -1,20 +1,29 @@
 -- What goes wrong without some of the claim's conditions, by computing. Assumes nothing.
 use Prim.Native.Nat.{ℕ}
 use mathlib.Core.Path.{_≡_, refl}
+use mathlib.Core.Bool.{Bool, false}
 use mathlib.Core.List.{List, [], _∷_}
 use lib.Ieee.{Float, binary32, add, sub, mul, div, lt, le, ofInt, ofBits}
 use Rattle.ieee.specs.Fused.{fma}
 use Rattle.ieee.specs.Limit.{allWithin}
 use Rattle.ieee.specs.Literal.{zero32, one32}
+use Rattle.ieee.specs.Root.{hypotOf, isqrt}
 use Rattle.command.specs.declared.PathCommand.{PathCommand}
 use Rattle.command.specs.declared.PathCommand.the-variants.{Move, Line, Cubic}
 use Rattle.command.specs.declared.Refusal.the-variants.{OutOfRange, NotFinite}
 use Rattle.command.specs.Outcomes.{Outcome, refused, accepted}
 use Rattle.path.specs.Path.{bezierSegment}
 use Rattle.draw.specs.Paths.{drawPath}
+use Rattle.curve.specs.Curve.{distance}
+use Rattle.measure.specs.Length as measure
+use Rattle.reader.specs.Read as reader
+use Rattle.judge.specs.Lists as judge
+use Rattle.reach.specs.Reach as reach
+use Rattle.reach.specs.Reach.{lengthReaches}
 use Rattle.repeater.specs.Matrix.{concat, preTranslate, preScale}
 use Rattle.repeater.specs.Repeater as repeater
 use Rattle.copies.specs.Calls.{hasTooMany, repeaterChecks, copyNumbers, allFinite, copyAnswer, transformAnswer}
+use Rattle.enlargement.specs.Plates.{times}
 
 -- ---- the grid of 1 / 1,024: an out-tangent of 2 ^ -14 is within 1e-4, and twice that is not
 abbrev tangent : Float → Outcome (List PathCommand)
@@ -92,3 +101,18 @@ unfolding ofBits allWithin lt le ofInt add sub mul div fma concat preTranslate p
     repeater.iterationTransform repeater.copyTransform repeater.opacityOf repeater.copyOpacity
     hasTooMany repeaterChecks copyNumbers allFinite copyAnswer transformAnswer
 third-of-two = refl
+
+-- ---- a length whose multiple is finite too: 2 ^ 127 is not reached by a line of length 5, and twice that is no length
+abbrev asked : Float → Outcome (Bool × ℕ)
+asked least = lengthReaches (0 ∷ 1 ∷ []) (zero32 ∷ zero32 ∷ ofBits binary32 0x4040_0000 ∷ ofBits binary32 0x4080_0000 ∷ []) least
+
+large-length : asked (ofBits binary32 0x7f00_0000) ≡ accepted (false, 2)
+unfolding sub ofBits le hypotOf isqrt allWithin
+    distance measure.startPen measure.moveTo measure.lineTo measure.step measure.steps measure.lengthAfter measure.pathLength
+    reader.sizeOfCode reader.commandAt reader.commandChecks reader.readCommand judge.inFront judge.readList judge.placeOf
+    reach.firstCommands reach.longEnough reach.oneMore reach.fewest reach.replied reach.isLength lengthReaches
+large-length = refl
+
+large-length-enlarged : asked (times 1 (ofBits binary32 0x7f00_0000)) ≡ refused OutOfRange
+unfolding mul ofBits reach.isLength lengthReaches
+large-length-enlarged = refl

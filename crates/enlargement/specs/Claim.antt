@@ -6,6 +6,8 @@
 --   merge decision              the same: a refusal, or which rows are joined
 --   merge                       as drawing
 --   length                      the same refusal, or the length multiplied
+--   long enough                 the same refusal, or the same reply after as many commands; the length asked for is multiplied too.
+--                               Only where it is finite and so large that its multiple is not, nothing is said.
 --   one command's numbers       the same refusal, place and count; the numbers multiplied
 --   ranges                      the same
 --   cut lengths                 the same refusal, or the same ranges and every cut length multiplied.
@@ -20,8 +22,10 @@
 -- second demand. The proof is proofs/Claim.antt, and proofs/Example.antt is a plate that meets the conditions. Definitions only.
 use Prim.Native.Nat.{ℕ, _≤_}
 use mathlib.Core.Path.{_≡_}
+use mathlib.Core.Bool.{true}
 use mathlib.Core.List.{List, [], _∷_, _++_, map}
 use lib.Ieee.{Float}
+use lib.Ieee.Scale.{finite}
 use lib.ListN.{take, drop}
 use Rattle.ieee.specs.Grid.{scale}
 use Rattle.command.specs.Commands.{numbersOf}
@@ -34,6 +38,7 @@ use Rattle.merge.specs.Decision.{decision}
 use Rattle.join.specs.Merge.{drawMerge}
 use Rattle.judge.specs.Lists.{findCommand, commandFault, commandPart}
 use Rattle.length.specs.Lists.{measureList}
+use Rattle.reach.specs.Reach.{lengthReaches}
 use Rattle.cut.specs.Answers.{rangesAnswer, lengthsAnswer, toldNumbers}
 use Rattle.cut.specs.Enlarged.{CutsAlike}
 use Rattle.copies.specs.Calls.{orderAnswer, transformAnswer}
@@ -68,6 +73,8 @@ pub record AnsweredAlike (k : ℕ) (p p' : Plate) : Type 0 where
   pub merge-drawn : drawMerge (p' .lent .rows) (p' .lent .rowCount) (p' .items) ≡ enlargedDrawing k (drawMerge (p .lent .rows) (p .lent .rowCount) (p .items))
   pub merge-need : needOf (drawMerge (p' .lent .rows) (p' .lent .rowCount) (p' .items)) ≡ needOf (drawMerge (p .lent .rows) (p .lent .rowCount) (p .items))
   pub length-measured : measureList (p' .lent .codes) (p' .numbers) ≡ mapped (scale k) (measureList (p .lent .codes) (p .numbers))
+  pub length-reached : (finite (p .least) ≡ true → finite (p' .least) ≡ true)
+      → lengthReaches (p' .lent .codes) (p' .numbers) (p' .least) ≡ lengthReaches (p .lent .codes) (p .numbers) (p .least)
   pub command-found : findCommand (p' .lent .codes) (p' .numbers) (p' .lent .command) ≡ findCommand (p .lent .codes) (p .numbers) (p .lent .command)
   pub command-fault : commandFault (p' .lent .codes) (p' .numbers) (p' .lent .command) ≡ commandFault (p .lent .codes) (p .numbers) (p .lent .command)
   pub command-numbers : commandPart (p' .lent .codes) (p' .numbers) (p' .lent .command) ≡ map (scale k) (commandPart (p .lent .codes) (p .numbers) (p .lent .command))

@@ -36,12 +36,13 @@ pub record Lent : Type 0 where
   -- the copy that is asked for
   pub copy : ℕ
 
--- a plate: that, the numbers of the vertex list, of the rows and of the command list, and a repeater
+-- a plate: that, the numbers of the vertex list, of the rows and of the command list, the length that the command list is asked to reach, and a repeater
 pub record Plate : Type 0 where
   pub lent : Lent
   pub vertices : List Float
   pub items : List Float
   pub numbers : List Float
+  pub least : Float
   pub repeater : RepeaterStyle
 
 -- ---- what is read
@@ -78,8 +79,8 @@ pub data Made : List PathCommand → Type 0 where
   of-merge : (rows : List ℕ) (n : ℕ) (items : List Float) (cs : List PathCommand) → GridAt (OfMerge rows n) items → drawMerge rows n items ≡ accepted cs → Made cs
 
 -- The conditions of the third demand: every number that is read as a coordinate is on the grid, the command list is made of such, and the repeater
--- scales by 100. That the repeater has no rotation is not asked: one that has is refused alike. Nothing is asked of numbers that are not read, nor of
--- all else.
+-- scales by 100. That the repeater has no rotation is not asked: one that has is refused alike. Of the length that is asked for only that it is an f32, as
+-- whatever is handed to the call is. Nothing is asked of numbers that are not read, nor of all else.
 pub record PlateOnGrid (p : Plate) : Type 0 where
   pub vertices : GridAt (OfVertices (p .lent .count)) (p .vertices)
   pub row : GridAt (OfRow (itemRow (p .lent .row) 0)) (p .items)
@@ -88,6 +89,7 @@ pub record PlateOnGrid (p : Plate) : Type 0 where
   pub made : Made commands
   pub codes-are : p .lent .codes ≡ codesOf commands
   pub numbers-are : p .numbers ≡ numbersOf commands
+  pub least-single : fits binary32 (p .least) ≡ true
   pub scale-x : p .repeater .scale .x ≡ hundred32
   pub scale-y : p .repeater .scale .y ≡ hundred32
   pub position-x : OnGrid (p .repeater .position .x)
@@ -127,9 +129,10 @@ pub record Enlarged (k : ℕ) (p p' : Plate) : Type 0 where
   pub row : MultipliedAt k (OfRow (itemRow (p .lent .row) 0)) (p .items) (p' .items)
   pub rows : MultipliedAt k (OfMerge (p .lent .rows) (p .lent .rowCount)) (p .items) (p' .items)
   pub numbers : p' .numbers ≡ map (times k) (p .numbers)
+  pub least : p' .least ≡ times k (p .least)
   pub repeater : p' .repeater ≡ enlargedRepeater k (p .repeater)
 
--- the plate with every number of its lists multiplied, read or not
+-- the plate with every number of its lists multiplied, read or not, and the length that is asked for
 unfoldable pub enlarge : ℕ → Plate → Plate
 unfolding enlargedRepeater
 enlarge k p = record {
@@ -137,5 +140,6 @@ enlarge k p = record {
   vertices = map (times k) (p .vertices);
   items = map (times k) (p .items);
   numbers = map (times k) (p .numbers);
+  least = times k (p .least);
   repeater = enlargedRepeater k (p .repeater);
 }

@@ -15,11 +15,13 @@ ghost use Rattle.draw.specs.Items.{drawItem};
 ghost use Rattle.join.specs.Merge.{drawMerge};
 ghost use Rattle.judge.specs.Lists.{findCommand};
 ghost use Rattle.length.specs.Lists.{measureList};
+ghost use Rattle.reach.specs.Reach.{lengthReaches, Replied};
 ghost use Rattle.cut.specs.Answers.{rangesAnswer, lengthsAnswer, Placed};
 ghost use Rattle.copies.specs.Calls.{repeaterOf, orderAnswer, transformAnswer};
 use cut::Shown;
 use cut::Trimmed;
 use length::Measured;
+use reach::Reply;
 use trim::TrimStyle;
 
 #[no_mangle]
@@ -184,6 +186,35 @@ pub extern "C" fn jengafir_length(codes: &[u8], numbers: &[f32], length: &mut f3
         Measured::Refused(refusal) => command::refusal_number(refusal),
         Measured::Length(x) => {
             *length = x;
+            0
+        }
+    }
+}
+
+#[no_mangle]
+pub extern "C" fn jengafir_length_reaches(
+    codes: &[u8],
+    numbers: &[f32],
+    least: f32,
+    reached: &mut u32,
+    commands_read: &mut usize,
+) -> u32
+    ensures { λ r. ⌜ Replied (lengthReaches (now (codes .entry)) (now (numbers .entry)) least)
+        r (now («commands_read» .exit)) (now (reached .entry)) (now (reached .exit)) ⌝ }
+{
+    match reach::length_reaches(codes, numbers, least) {
+        Reply::Refused(refusal) => {
+            *commands_read = 0;
+            command::refusal_number(refusal)
+        }
+        Reply::Yes(count) => {
+            *reached = 1;
+            *commands_read = count;
+            0
+        }
+        Reply::No(count) => {
+            *reached = 0;
+            *commands_read = count;
             0
         }
     }

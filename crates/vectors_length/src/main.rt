@@ -1,9 +1,11 @@
-// Runs the vectors of lengths and single commands: reads calls from standard input, one a line, and writes what each answers.
+// Runs the vectors of lengths, single commands and lengths that are reached: reads calls from standard input, one a line, and
+// writes what each answers.
 // tools/length_vectors.py makes the lines and says how they read.
 ghost use Prim.Native.Nat.{_<_};
 use length::Measured;
 use libc::STDIN_FILENO;
 use libc::STDOUT_FILENO;
+use reach::Reply;
 
 fn print_length(x: f32) {
     io::write_all(STDOUT_FILENO, b"length ");
@@ -28,8 +30,26 @@ fn print_part(fault: u32, part: &[f32]) {
     io::write_all(STDOUT_FILENO, b"\n");
 }
 
+fn print_read(word: &[u8], n: usize) {
+    io::write_all(STDOUT_FILENO, word);
+    pattern_text::print_decimal(n);
+    io::write_all(STDOUT_FILENO, b"\n");
+}
+
+fn print_reply(reply: Reply) {
+    match reply {
+        Reply::Refused(refusal) => pattern_text::print_refusal(refusal),
+        Reply::Yes(n) => print_read(b"yes ", n),
+        Reply::No(n) => print_read(b"no ", n),
+    }
+}
+
 fn is_command(line: &[u8]) -> bool {
     pattern_text::byte(line, 0) == b'c'
+}
+
+fn is_reach(line: &[u8]) -> bool {
+    pattern_text::byte(line, 0) == b'r'
 }
 
 fn call(line: &[u8], codes: &[u8], numbers: &[f32]) {
@@ -38,6 +58,9 @@ fn call(line: &[u8], codes: &[u8], numbers: &[f32]) {
         pattern_text::print_counts(b"numbers ", judge::find_command(codes, numbers, k));
         let fault = judge::command_fault(codes, numbers, k);
         print_part(fault, judge::command_part(codes, numbers, k));
+    } else if is_reach(line) {
+        let least = pattern_text::number(pattern_text::field(line, 0));
+        print_reply(reach::length_reaches(codes, numbers, least));
     } else {
         print_measured(length::path_length(codes, numbers));
     }
@@ -47,7 +70,11 @@ fn call(line: &[u8], codes: &[u8], numbers: &[f32]) {
 fn lengths_place(line: &[u8]) -> usize
     ensures { λ r. ⌜ r < 10 ⌝ }
 {
-    if is_command(line) { 1 } else { 0 }
+    if is_command(line) || is_reach(line) {
+        1
+    } else {
+        0
+    }
 }
 
 // Calls what a line says with two lists, which it fills.
