@@ -1,7 +1,8 @@
 /* A bag panel of a coin sorter, written to standard output as an SVG page. Each bag has a frame with a mouth, square or
-   round, a ring that shows how full it is, and a stack of coins. Of each drawing the panel first asks what it needs,
-   and then draws it into buffers of just that size. The panel is drawn at size 1, and from enlarged input at size 2.
-   The program compares the two and fails where the second is not the first, exactly enlarged.
+   round, a ring that shows how full it is, an arrow that rises beside it, and a stack of coins. Of each drawing the
+   panel first asks what it needs, and then draws it into buffers of just that size. The panel is drawn at size 1, and
+   from enlarged input at size 2. The program compares the two and fails where the second is not the first, exactly
+   enlarged.
 
        gcc -std=c99 -Iinclude examples/panel.c target/staticlib/libjengafir.a -o panel && ./panel >panel.svg
 
@@ -34,6 +35,13 @@
 #define STACK_HEIGHT 54
 #define MIDDLE 32
 #define COIN_Y 46
+
+/* An arrow stands left of the mouth, and rises by half a unit with each coin. It has a head where it is as long as one. */
+#define ARROW_X -6
+#define ARROW_FOOT 57
+#define ARROW_RISE 0.5f
+#define HEAD_LENGTH 9
+#define HEAD_SIDE 3
 
 /* The items of a bag at size 1: the frame's rectangle; its mouth, which is a rectangle, or an ellipse with no use for the
    roundness; the ring as a path from the right, clockwise; and the coin, an ellipse. */
@@ -88,11 +96,14 @@ typedef struct {
     float length;
 } Path;
 
-/* How much of the ring is visible, and the copies of the coin in the order in which they are drawn. */
+/* How much of the ring is visible, the arrow and whether it has a head, and the copies of the coin in the order in which
+   they are drawn. */
 typedef struct {
     float ranges[4], cuts[6];
     size_t range_count;
     uint32_t whole;
+    Path arrow;
+    uint32_t has_head;
     uint32_t order[MOST_COPIES];
     float copies[MOST_COPIES][7];
     size_t copy_count;
@@ -174,20 +185,32 @@ static Path draw_coin(const float *enlarged)
     return path;
 }
 
-/* The ring is drawn from its vertices, with no row about them. */
-static Path draw_ring(const float *enlarged)
+/* Draws vertices, with no row about them. */
+static Path draw_vertices(uint32_t closed, const float *vertices, size_t count)
 {
-    const float *vertices = enlarged + RING_PLACE;
     size_t codes_needed, numbers_needed;
-    uint32_t refusal =
-        jengafir_tray_need(1, vertices, 6 * RING_VERTICES, RING_VERTICES, &codes_needed, &numbers_needed);
+    uint32_t refusal = jengafir_tray_need(closed, vertices, 6 * count, count, &codes_needed, &numbers_needed);
     must_accept("jengafir_tray_need", refusal);
     Path path = buffers(codes_needed, numbers_needed);
-    refusal = jengafir_draw_path(1, vertices, 6 * RING_VERTICES, RING_VERTICES, path.codes, path.codes_len,
-                                 path.numbers, path.numbers_len, &path.code_count, &path.number_count);
+    refusal = jengafir_draw_path(closed, vertices, 6 * count, count, path.codes, path.codes_len, path.numbers,
+                                 path.numbers_len, &path.code_count, &path.number_count);
     must_accept("jengafir_draw_path", refusal);
     measure(&path);
     return path;
+}
+
+/* Draws a line from the foot up, and asks only whether it is long enough for a head. */
+static void rise(const Bag *bag, int size, Fill *fill)
+{
+    const float factor = (float)size;
+    const float x = ARROW_X * factor, foot = ARROW_FOOT * factor, top = foot - ARROW_RISE * (float)bag->coins * factor;
+    const float vertices[] = {x, foot, 0, 0, 0, 0, x, top, 0, 0, 0, 0};
+    size_t commands_read;
+    fill->arrow = draw_vertices(0, vertices, 2);
+    uint32_t refusal = jengafir_length_reaches(fill->arrow.codes, fill->arrow.code_count, fill->arrow.numbers,
+                                               fill->arrow.number_count, HEAD_LENGTH * factor, &fill->has_head,
+                                               &commands_read);
+    must_accept("jengafir_length_reaches", refusal);
 }
 
 /* The point of the path's first command, which is a move. */
@@ -245,11 +268,12 @@ static void draw_panel(int size, Panel *panel)
     panel->size = size;
     for (size_t i = 0; i < MOUTHS; i++)
         panel->frames[i] = draw_frame(frame_rows[i], enlarged);
-    panel->ring = draw_ring(enlarged);
+    panel->ring = draw_vertices(1, enlarged + RING_PLACE, RING_VERTICES);
     panel->coin = draw_coin(enlarged);
     find_start(&panel->ring, panel->ring_start);
     for (size_t i = 0; i < BAGS; i++) {
         trim(&bags[i], &panel->ring, &panel->fills[i]);
+        rise(&bags[i], size, &panel->fills[i]);
         stack(&bags[i], size, &panel->fills[i]);
     }
 }
@@ -293,6 +317,13 @@ static void compare_trims(const Fill *small, const Fill *large)
     must_enlarge("a cut is not enlarged exactly", small->cuts, large->cuts, 3 * small->range_count);
 }
 
+static void compare_arrows(const Fill *small, const Fill *large)
+{
+    compare_paths(&small->arrow, &large->arrow);
+    if (small->has_head != large->has_head)
+        fail("an arrow has a head at one size alone");
+}
+
 static void compare_stacks(const Fill *small, const Fill *large)
 {
     if (small->copy_count != large->copy_count ||
@@ -315,6 +346,7 @@ static void compare(const Panel *small, const Panel *large)
     must_enlarge("the start of the ring is not enlarged exactly", small->ring_start, large->ring_start, 2);
     for (size_t i = 0; i < BAGS; i++) {
         compare_trims(&small->fills[i], &large->fills[i]);
+        compare_arrows(&small->fills[i], &large->fills[i]);
         compare_stacks(&small->fills[i], &large->fills[i]);
     }
 }
@@ -323,7 +355,7 @@ static void compare(const Panel *small, const Panel *large)
 #define MARGIN 28
 #define COLUMN 150
 #define LINE 15
-#define TITLE_HEIGHT 96
+#define TITLE_HEIGHT 111
 #define HEADING_HEIGHT 30
 #define CAPTION_HEIGHT 56
 #define FOOT_HEIGHT 63
@@ -390,6 +422,17 @@ static void write_ring(const Panel *panel, const Fill *fill, int coins)
            MIDDLE * panel->size, (MOUTH_HEIGHT / 2 + 4) * panel->size, 11 * panel->size, coins);
 }
 
+/* The line, and if it has one its head, which ends where the line does. */
+static void write_arrow(const Fill *fill, int size)
+{
+    const float *end = fill->arrow.numbers + fill->arrow.number_count - 2;
+    begin_path(&fill->arrow);
+    printf(" fill=\"none\" stroke=\"" INK "\" stroke-width=\"%d\"/>\n", size);
+    if (fill->has_head)
+        printf("<path d=\"M%.9g %.9g l%d %d h%d Z\" fill=\"" INK "\"/>\n", end[0], end[1], HEAD_SIDE * size,
+               HEAD_LENGTH * size, -2 * HEAD_SIDE * size);
+}
+
 static void write_stack(const Path *coin, const Fill *fill)
 {
     for (size_t i = 0; i < fill->copy_count; i++) {
@@ -451,6 +494,7 @@ static void write_bag(const Panel *panel, size_t i, int top)
     printf("<g transform=\"translate(%d %d)\">\n", left, top);
     write_frame(&panel->frames[bags[i].mouth]);
     write_ring(panel, fill, bags[i].coins);
+    write_arrow(fill, panel->size);
     printf("</g>\n");
     write_ring_caption(&bags[i], fill, middle, mouth_end + LINE);
     printf("<g transform=\"translate(%d %d)\">\n", left, stack_top);
@@ -475,6 +519,7 @@ static void write_title(void)
         "A frame is a round rectangle and the bag's mouth, merged; the mouth is a rectangle or an ellipse.",
         "A ring is one path, which starts at the dot, trimmed to the bag's count: one arc, or two where it runs past "
         "its start, and how long they are.",
+        "An arrow rises with the coins, and has a head as soon as it is long enough for one.",
         "A stack is one coin, an ellipse, repeated: once for every ten coins in the bag, and once for those left over.",
     };
     printf("<text x=\"%d\" y=\"%d\" font-size=\"18\" font-weight=\"bold\" fill=\"" INK "\">The bag panel of a coin "
@@ -489,7 +534,7 @@ static void write_foot(const Panel *panel)
 {
     int y = PAGE_HEIGHT - FOOT_HEIGHT + LINE;
     printf("<text x=\"%d\" y=\"%d\" fill=\"" INK "\">Size %d compared with size 1, %zu numbers: the commands, ranges, "
-           "orders, shapes of copies and opacities are the same;</text>\n",
+           "heads, orders, shapes of copies and opacities are the same;</text>\n",
            MARGIN, y, FACTOR, numbers_compared);
     printf("<text x=\"%d\" y=\"%d\" fill=\"" INK "\">every coordinate, length, cut and shift is exactly %d times as "
            "large.</text>\n",
@@ -515,13 +560,20 @@ static void write_page(const Panel *small, const Panel *large)
     printf("</svg>\n");
 }
 
+static void release_path(Path *path)
+{
+    free(path->codes);
+    free(path->numbers);
+}
+
 static void release(Panel *panel)
 {
-    Path *paths[] = {&panel->frames[SQUARE], &panel->frames[ROUND], &panel->ring, &panel->coin};
-    for (size_t i = 0; i < COUNT(paths); i++) {
-        free(paths[i]->codes);
-        free(paths[i]->numbers);
-    }
+    for (size_t i = 0; i < MOUTHS; i++)
+        release_path(&panel->frames[i]);
+    release_path(&panel->ring);
+    release_path(&panel->coin);
+    for (size_t i = 0; i < BAGS; i++)
+        release_path(&panel->fills[i].arrow);
 }
 
 int main(void)
