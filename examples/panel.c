@@ -88,7 +88,7 @@ static const Bag bags[] = {
 };
 #define BAGS COUNT(bags)
 
-/* A command list in buffers of its own, and its length. */
+/* A command list in buffers of its own, and its length where it is measured. */
 typedef struct {
     uint8_t *codes;
     float *numbers;
@@ -104,6 +104,7 @@ typedef struct {
     uint32_t whole;
     Path arrow;
     uint32_t has_head;
+    size_t commands_read;
     uint32_t order[MOST_COPIES];
     float copies[MOST_COPIES][7];
     size_t copy_count;
@@ -148,11 +149,15 @@ static size_t bytes_of(const Path *path)
     return path->codes_len * sizeof *path->codes + path->numbers_len * sizeof *path->numbers;
 }
 
-/* A drawing fills buffers of just the size that it was said to need, and has a length. */
-static void measure(Path *path)
+/* A drawing fills buffers of just the size that it was said to need. */
+static void must_fill(const Path *path)
 {
     if (path->code_count != path->codes_len || path->number_count != path->numbers_len)
         fail("a drawing does not fill what it needs");
+}
+
+static void measure(Path *path)
+{
     uint32_t refusal =
         jengafir_length(path->codes, path->code_count, path->numbers, path->number_count, &path->length);
     must_accept("jengafir_length", refusal);
@@ -168,7 +173,7 @@ static Path draw_frame(const uint32_t rows[FRAME_ROWS][6], const float *enlarged
     refusal = jengafir_merge(rows[0], 6 * FRAME_ROWS, FRAME_ROWS, enlarged, ITEMS, path.codes, path.codes_len,
                              path.numbers, path.numbers_len, &path.code_count, &path.number_count);
     must_accept("jengafir_merge", refusal);
-    measure(&path);
+    must_fill(&path);
     return path;
 }
 
@@ -181,7 +186,7 @@ static Path draw_coin(const float *enlarged)
     refusal = jengafir_draw_item(coin_row, 6, enlarged, ITEMS, path.codes, path.codes_len, path.numbers,
                                  path.numbers_len, &path.code_count, &path.number_count);
     must_accept("jengafir_draw_item", refusal);
-    measure(&path);
+    must_fill(&path);
     return path;
 }
 
@@ -195,21 +200,20 @@ static Path draw_vertices(uint32_t closed, const float *vertices, size_t count)
     refusal = jengafir_draw_path(closed, vertices, 6 * count, count, path.codes, path.codes_len, path.numbers,
                                  path.numbers_len, &path.code_count, &path.number_count);
     must_accept("jengafir_draw_path", refusal);
-    measure(&path);
+    must_fill(&path);
     return path;
 }
 
-/* Draws a line from the foot up, and asks only whether it is long enough for a head. */
+/* Draws a line from the foot up. How long it is does not matter, only whether it is long enough for a head. */
 static void rise(const Bag *bag, int size, Fill *fill)
 {
     const float factor = (float)size;
     const float x = ARROW_X * factor, foot = ARROW_FOOT * factor, top = foot - ARROW_RISE * (float)bag->coins * factor;
     const float vertices[] = {x, foot, 0, 0, 0, 0, x, top, 0, 0, 0, 0};
-    size_t commands_read;
     fill->arrow = draw_vertices(0, vertices, 2);
     uint32_t refusal = jengafir_length_reaches(fill->arrow.codes, fill->arrow.code_count, fill->arrow.numbers,
                                                fill->arrow.number_count, HEAD_LENGTH * factor, &fill->has_head,
-                                               &commands_read);
+                                               &fill->commands_read);
     must_accept("jengafir_length_reaches", refusal);
 }
 
@@ -266,10 +270,14 @@ static void draw_panel(int size, Panel *panel)
     for (size_t i = 0; i < ITEMS; i++)
         enlarged[i] = items[i] * (float)size;
     panel->size = size;
-    for (size_t i = 0; i < MOUTHS; i++)
+    for (size_t i = 0; i < MOUTHS; i++) {
         panel->frames[i] = draw_frame(frame_rows[i], enlarged);
+        measure(&panel->frames[i]);
+    }
     panel->ring = draw_vertices(1, enlarged + RING_PLACE, RING_VERTICES);
+    measure(&panel->ring);
     panel->coin = draw_coin(enlarged);
+    measure(&panel->coin);
     find_start(&panel->ring, panel->ring_start);
     for (size_t i = 0; i < BAGS; i++) {
         trim(&bags[i], &panel->ring, &panel->fills[i]);
@@ -306,6 +314,11 @@ static void compare_paths(const Path *small, const Path *large)
         memcmp(small->codes, large->codes, small->code_count) != 0)
         fail("a path has other commands at the larger size");
     must_enlarge("a coordinate is not enlarged exactly", small->numbers, large->numbers, small->number_count);
+}
+
+static void compare_measured(const Path *small, const Path *large)
+{
+    compare_paths(small, large);
     must_enlarge("a length is not enlarged exactly", &small->length, &large->length, 1);
 }
 
@@ -320,8 +333,8 @@ static void compare_trims(const Fill *small, const Fill *large)
 static void compare_arrows(const Fill *small, const Fill *large)
 {
     compare_paths(&small->arrow, &large->arrow);
-    if (small->has_head != large->has_head)
-        fail("an arrow has a head at one size alone");
+    if (small->has_head != large->has_head || small->commands_read != large->commands_read)
+        fail("an arrow is long enough for a head at one size alone, or after other commands");
 }
 
 static void compare_stacks(const Fill *small, const Fill *large)
@@ -340,9 +353,9 @@ static void compare_stacks(const Fill *small, const Fill *large)
 static void compare(const Panel *small, const Panel *large)
 {
     for (size_t i = 0; i < MOUTHS; i++)
-        compare_paths(&small->frames[i], &large->frames[i]);
-    compare_paths(&small->ring, &large->ring);
-    compare_paths(&small->coin, &large->coin);
+        compare_measured(&small->frames[i], &large->frames[i]);
+    compare_measured(&small->ring, &large->ring);
+    compare_measured(&small->coin, &large->coin);
     must_enlarge("the start of the ring is not enlarged exactly", small->ring_start, large->ring_start, 2);
     for (size_t i = 0; i < BAGS; i++) {
         compare_trims(&small->fills[i], &large->fills[i]);

@@ -137,8 +137,8 @@ uint32_t jengafir_merge_need(const uint32_t *rows, size_t rows_len, size_t row_c
    pointer is null, and a place that is lent for writing overlaps nothing else that is lent.
    A list has at most 262,144 commands, and every number is at most 4,194,304 in absolute value; an empty list is
    legal. A list is refused with 2 if it is longer; else by its first faulty command, with 4 for its code, 12 if the
-   list has not all of its numbers, or 3; and else with 12 if numbers are left over. What jengafir_draw_path,
-   jengafir_draw_item and jengafir_merge write is never refused. */
+   list has not all of its numbers, or 3; and else with 12 if numbers are left over. Only jengafir_length_reaches may
+   stop before a fault. What jengafir_draw_path, jengafir_draw_item and jengafir_merge write is never refused. */
 
 /* Puts the length of a path down in `length`: 32 chords a cubic, 24 a quad, and a close back to where its contour
    started. Without a point to come from, a line or a curve adds nothing; it sets the point, and its contour has no

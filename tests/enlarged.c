@@ -159,7 +159,7 @@ static void reach(const Drawing *small, const Drawing *large, float length, int 
 {
     const float least[] = {
         0, -0.0f, 0x1p-20f, length / 8, length * 0.3f, length / 2, length * 0.9f, length, next_above(length),
-        0x1p120f, -0x1p-20f, -length, -INFINITY, INFINITY, NAN,
+        0x1p120f, -0x1p-20f, -length, -0x1p127f, -INFINITY, INFINITY, NAN,
     };
     for (size_t i = 0; i < COUNT(least); i++) {
         Reply reply = length_reaches(small, least[i]), large_reply = length_reaches(large, least[i] * (float)factor);
@@ -168,8 +168,9 @@ static void reach(const Drawing *small, const Drawing *large, float length, int 
                "jengafir_length_reaches", factor);
     }
     /* Only a length whose multiple is infinite is another matter: it is not reached, and the multiple is no length. */
-    expect(length_reaches(small, 0x1p127f).result == JENGAFIR_ACCEPTED &&
-               length_reaches(large, 0x1p127f * (float)factor).result == JENGAFIR_OUT_OF_RANGE,
+    Reply reply = length_reaches(small, 0x1p127f), large_reply = length_reaches(large, 0x1p127f * (float)factor);
+    expect(reply.result == JENGAFIR_ACCEPTED && reply.reached == 0 && reply.commands_read == small->code_count &&
+               large_reply.result == JENGAFIR_OUT_OF_RANGE,
            "jengafir_length_reaches, a multiple that is infinite", factor);
 }
 

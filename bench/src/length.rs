@@ -12,9 +12,10 @@ const LISTS: usize = 16;
 pub const A_COMMAND: Unit = ("command", COMMANDS);
 const A_CALL: Unit = ("call", 1);
 
-/// A length that no list here has, and one that each has after its first cubic.
-const TOO_LONG: f32 = f32::MAX;
+/// A length that each list of cubics has after its first.
 const SHORT: f32 = 1.0;
+/// The most commands that are read of a list.
+const MOST_COMMANDS: usize = 262_144;
 
 const LINE: u8 = 1;
 const CUBIC: u8 = 2;
@@ -23,22 +24,22 @@ const QUAD: u8 = 4;
 /// The kinds of commands that draw, and their names.
 pub const KINDS: [(&str, u8); 3] = [("lines", LINE), ("quads", QUAD), ("cubics", CUBIC)];
 
-/// A move and commands of one kind, between points from -4096 to 4096.
-fn list(unit: &mut impl FnMut() -> f32, code: u8) -> Path {
+/// A move and so many commands of one kind, between points from -4096 to 4096.
+fn list(unit: &mut impl FnMut() -> f32, code: u8, commands: usize) -> Path {
     let size = match code {
         CUBIC => 6,
         QUAD => 4,
         _ => 2,
     };
     let mut codes = vec![0];
-    codes.resize(COMMANDS + 1, code);
-    let numbers = (0..2 + COMMANDS * size).map(|_| unit() * 4096.0).collect();
+    codes.resize(commands + 1, code);
+    let numbers = (0..2 + commands * size).map(|_| unit() * 4096.0).collect();
     Path { codes, numbers }
 }
 
 pub fn lists(code: u8) -> Vec<Path> {
     let mut unit = unit_numbers();
-    (0..LISTS).map(|_| list(&mut unit, code)).collect()
+    (0..LISTS).map(|_| list(&mut unit, code, COMMANDS)).collect()
 }
 
 fn length(list: &Path) -> u32 {
@@ -69,7 +70,7 @@ fn reaches(list: &Path, least: f32) -> [u32; 2] {
     [reached, read as u32]
 }
 
-/// How many commands are read up to the first cubic.
+/// How many commands are read of a list whose first cubic is long enough.
 fn reaches_at_once(list: &Path) -> u32 {
     let [reached, read] = reaches(list, SHORT);
     assert_eq!([reached, read], [1, 2]);
@@ -100,13 +101,17 @@ pub fn run() {
         let theirs = |list: &Path| source::path_length(list).to_bits();
         compare(&format!("length, {name}"), A_COMMAND, &lists(code), length, theirs);
     }
+    // Asked for its own length a list is read to its last command.
     for (name, code) in KINDS {
-        let ours = |list: &Path| reaches(list, TOO_LONG)[0];
-        let theirs = |list: &Path| (source::path_length(list) >= TOO_LONG) as u32;
-        compare(&format!("reaches, {name}"), A_COMMAND, &lists(code), ours, theirs);
+        let asked: Vec<_> = lists(code).into_iter().map(|list| (source::path_length(&list), list)).collect();
+        let ours = |(least, list): &(f32, Path)| reaches(list, *least)[0];
+        let theirs = |(least, list): &(f32, Path)| (source::path_length(list) >= *least) as u32;
+        compare(&format!("reaches, {name}"), A_COMMAND, &asked, ours, theirs);
     }
     // Rust measures a list whole, as in the lines before: it has no function that stops, and so no time here.
-    alone("reaches first cubic", A_CALL, &lists(CUBIC), reaches_at_once);
+    alone("reaches, 1 of 1,024", A_CALL, &lists(CUBIC), reaches_at_once);
+    let longest = [list(&mut unit_numbers(), CUBIC, MOST_COMMANDS - 1)];
+    alone("reaches, 1 of 262,144", A_CALL, &longest, reaches_at_once);
     for (name, code) in KINDS {
         alone(&format!("command, {name}"), A_COMMAND, &lists(code), last_command);
     }

@@ -1,13 +1,12 @@
 -- Every call answers a plate on the grid and the same plate enlarged alike, for each of the factors 2, 4, 8, 16, 32 and 64. Each law that is cited stands in the crate of the call.
 -- Assumes nothing.
 use mathlib.Core.Path.{_≡_, refl, sym, ap, ap₂, subst, _∙_}
-use mathlib.Core.Bool.{true}
+use mathlib.Core.Bool.{Bool, true, false}
 use mathlib.Core.List.{List, map}
 use Prim.Native.Nat.{ℕ, _+_, _≤_}
 use native.Mathlib.Omega.{arith}
 use lib.Dec.{T, lit≤}
 use lib.Ieee.{Float, nan, binary32, mul}
-use lib.Ieee.Bits.{is-true}
 use lib.Ieee.Scale.{finite}
 use lib.ListN.{getD, length-map, List·getD-map}
 use Rattle.ieee.specs.Grid.{scale}
@@ -26,8 +25,8 @@ use Rattle.judge.specs.Lists.{findCommand, commandFault, commandPart}
 use Rattle.judge.proofs.Enlarged.{found-twins, fault-twins, part-twins}
 use Rattle.length.specs.Lists.{measureList}
 use Rattle.length.proofs.Enlarged.{measured-twins}
-use Rattle.reach.specs.Reach.{lengthReaches}
-use Rattle.reach.proofs.Enlarged.{reach-twins}
+use Rattle.reach.specs.Reach.{isLength, lengthReaches}
+use Rattle.reach.proofs.Enlarged.{asked-scale, infinite-unasked, unasked-twins, reach-twins}
 use Rattle.trim.specs.declared.Ranges.{Ranges}
 use Rattle.cut.specs.Answers.{rangesAnswer, lengthsAnswer}
 use Rattle.cut.specs.Enlarged.{CutsAlike}
@@ -35,7 +34,8 @@ use Rattle.cut.proofs.Enlarged.{cuts-alike}
 use Rattle.repeater.specs.declared.RepeaterStyle.{RepeaterStyle}
 use Rattle.repeater.proofs.Enlarged.{RepeaterTwin}
 use Rattle.copies.proofs.Enlarged.{order-same, copy-twins}
-use Rattle.enlargement.specs.Plates.{Lent, Plate, OfVertices, OfRow, OfMerge, PlateOnGrid, times, enlargedRepeater, MultipliedAt, Enlarged, enlarge}
+use Rattle.enlargement.specs.Plates.{Lent, Plate, OfVertices, OfRow, OfMerge, PlateOnGrid, LengthAsked}
+use Rattle.enlargement.specs.Plates.{times, enlargedRepeater, MultipliedAt, Enlarged, enlarge}
 use Rattle.enlargement.specs.Claim.{AnsweredAlike, EnlargedAlike, multipliedNumbers}
 use Rattle.enlargement.specs.Buffers.{FilledAlike}
 use Rattle.enlargement.proofs.Buffers.{filled-alike}
@@ -63,12 +63,27 @@ module _ (k : ℕ) (K : k ≤ 6) (p p' : Plate) (G : PlateOnGrid p) (E : Enlarge
   numbers-enlarged : p' .numbers ≡ numbersOf cs'
   numbers-enlarged = E .numbers ∙ ap (map (times k)) (G .numbers-are) ∙ products k 35 16 (numbersOf cs) (lit≤ tt) (omega arith) (made-small cs (G .made)) ∙ sym (enlarged-numbers k cs)
 
-  -- the length that is asked for
-  least-enlarged : (finite (p .least) ≡ true → finite (p' .least) ≡ true) → p' .least ≡ scale k (p .least)
-  least-enlarged h =
+  -- the length that is asked for: multiplied, or in both plates none
+  least-enlarged : LengthAsked p p' → finite (p' .least) ≡ true → p' .least ≡ scale k (p .least)
+  least-enlarged A e =
       E .least
-      ∙ mul-pow-finite binary32 k (p .least) (subst T (sym (G .least-single)) tt)
-      (λ t. subst (λ (x : Float). T (finite x)) (E .least) (subst T (sym (h (is-true (finite (p .least)) t))) tt))
+      ∙ mul-pow-finite binary32 k (p .least) (subst T (sym (A .single)) tt) (λ t. subst (λ (x : Float). T (finite x)) (E .least) (subst T (sym e) tt))
+
+  unasked-enlarged : LengthAsked p p' → isLength (p .least) ≡ false → isLength (p' .least) ≡ false
+  unasked-enlarged A e = go (finite (p' .least)) refl
+    where
+      go : (b : Bool) → finite (p' .least) ≡ b → isLength (p' .least) ≡ false
+      go true f = ap isLength (least-enlarged A f) ∙ asked-scale k (p .least) ∙ e
+      go false f = infinite-unasked (p' .least) f
+
+  length-reached : LengthAsked p p' → lengthReaches (codesOf cs') (numbersOf cs') (p' .least) ≡ lengthReaches (codesOf cs) (numbersOf cs) (p .least)
+  length-reached A = go (isLength (p .least)) refl
+    where
+      go : (b : Bool) → isLength (p .least) ≡ b → lengthReaches (codesOf cs') (numbersOf cs') (p' .least) ≡ lengthReaches (codesOf cs) (numbersOf cs) (p .least)
+      go true e =
+          ap (lengthReaches (codesOf cs') (numbersOf cs')) (least-enlarged A (A .multiple e))
+          ∙ reach-twins lists (lit≤ tt) (omega arith) (omega arith) (p .least)
+      go false e = unasked-twins lists (p .least) (p' .least) e (unasked-enlarged A e)
 
   -- the repeater
   repeaters : RepeaterTwin k (p .repeater) (p' .repeater)
@@ -114,8 +129,8 @@ module _ (k : ℕ) (K : k ≤ 6) (p p' : Plate) (G : PlateOnGrid p) (E : Enlarge
         enlarged-need k (drawMerge (p .lent .rows) (p .lent .rowCount) (p .items)) (drawMerge (p' .lent .rows) (p' .lent .rowCount) (p' .items)) merge-drawn;
     length-measured =
         ap₂ measureList codes-enlarged numbers-enlarged ∙ measured-twins k 35 16 cs cs' (lit≤ tt) (omega arith) small lists ∙ ap (mapped (scale k)) (sym (ap₂ measureList codes-first (G .numbers-are)));
-    length-reached = λ h.
-        (λ i. lengthReaches (codes-enlarged i) (numbers-enlarged i) (least-enlarged h i)) ∙ reach-twins lists (lit≤ tt) (omega arith) small (p .least)
+    length-reached = λ A.
+        (λ i. lengthReaches (codes-enlarged i) (numbers-enlarged i) (p' .least)) ∙ length-reached A
         ∙ sym (λ i. lengthReaches (codes-first i) (G .numbers-are i) (p .least));
     command-found =
         (λ i. findCommand (codes-enlarged i) (numbers-enlarged i) (E .lent i .command)) ∙ found-twins lists small (p .lent .command)

@@ -45,7 +45,7 @@ use Rattle.cut.specs.Answers.{lengthsAnswer, toldNumbers}
 use Rattle.repeater.specs.Matrix.{concat, preTranslate, preScale}
 use Rattle.repeater.specs.Repeater as repeater
 use Rattle.copies.specs.Calls.{hasTooMany, repeaterChecks, copyNumbers, allFinite, copyAnswer, transformAnswer}
-use Rattle.enlargement.specs.Plates.{Lent, Plate, OnGrid, GridAt, of-vertices, PlateOnGrid, enlarge}
+use Rattle.enlargement.specs.Plates.{Lent, Plate, OnGrid, GridAt, of-vertices, PlateOnGrid, LengthAsked, enlarge}
 use Rattle.enlargement.specs.Claim.{AnsweredAlike}
 use Rattle.enlargement.specs.Buffers.{FilledAlike}
 use Rattle.enlargement.proofs.Claim.{plate-enlarged}
@@ -145,7 +145,6 @@ example-on-grid = record {
   made = of-vertices 1 3 triangle sides (all-on-grid _ triangle tt) triangle-drawn;
   codes-are = refl;
   numbers-are = refl;
-  least-single = refl;
   scale-x = refl;
   scale-y = refl;
   position-x = on-grid ten tt;
@@ -153,6 +152,11 @@ example-on-grid = record {
   anchor-x = on-grid one32 tt;
   anchor-y = on-grid four tt;
 }
+
+-- of the length 7 nothing more is asked: 64 times 7 is finite
+pub example-asked : LengthAsked plate (enlarge 6 plate)
+unfolding enlarge mul ofBits fits
+example-asked = record { single = refl; multiple = λ e. refl }
 
 pub example-alike : (k : ℕ) → k ≤ 6 → AnsweredAlike k plate (enlarge k plate) × FilledAlike k plate (enlarge k plate)
 example-alike k K = plate-enlarged k K plate example-on-grid
@@ -216,15 +220,15 @@ length-48 = refl
 reached-7 : lengthReaches (lent .codes) (plate .numbers) (plate .least) ≡ accepted (true, 3)
 unfolding sub ofBits le hypotOf isqrt allWithin
     distance measure.startPen measure.moveTo measure.lineTo measure.close measure.step measure.steps measure.lengthAfter measure.pathLength
-    reader.sizeOfCode reader.commandAt reader.commandChecks reader.readCommand judge.inFront judge.readList judge.placeOf
-    reach.firstCommands reach.longEnough reach.oneMore reach.fewest reach.replied reach.isLength lengthReaches
+    reader.sizeOfCode reader.commandAt reader.commandChecks reader.readCommand judge.inFront judge.readList judge.judgeList judge.placeOf measureList
+    reach.firstLength reach.longEnough reach.oneMore reach.fewest reach.yesOrNo reach.isLength lengthReaches
 reached-7 = refl
 
 reached-28 : lengthReaches (lent .codes) (larger .numbers) (larger .least) ≡ accepted (true, 3)
 unfolding enlarge sub mul ofBits le hypotOf isqrt allWithin
     distance measure.startPen measure.moveTo measure.lineTo measure.close measure.step measure.steps measure.lengthAfter measure.pathLength
-    reader.sizeOfCode reader.commandAt reader.commandChecks reader.readCommand judge.inFront judge.readList judge.placeOf
-    reach.firstCommands reach.longEnough reach.oneMore reach.fewest reach.replied reach.isLength lengthReaches
+    reader.sizeOfCode reader.commandAt reader.commandChecks reader.readCommand judge.inFront judge.readList judge.judgeList judge.placeOf measureList
+    reach.firstLength reach.longEnough reach.oneMore reach.fewest reach.yesOrNo reach.isLength lengthReaches
 reached-28 = refl
 
 -- the middle half of it is shown: 3, 6, 3, and 12, 24, 12

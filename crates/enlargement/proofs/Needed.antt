@@ -18,6 +18,7 @@ use Rattle.curve.specs.Curve.{distance}
 use Rattle.measure.specs.Length as measure
 use Rattle.reader.specs.Read as reader
 use Rattle.judge.specs.Lists as judge
+use Rattle.length.specs.Lists.{measureList}
 use Rattle.reach.specs.Reach as reach
 use Rattle.reach.specs.Reach.{lengthReaches}
 use Rattle.repeater.specs.Matrix.{concat, preTranslate, preScale}
@@ -109,8 +110,8 @@ asked least = lengthReaches (0 ∷ 1 ∷ []) (zero32 ∷ zero32 ∷ ofBits binar
 large-length : asked (ofBits binary32 0x7f00_0000) ≡ accepted (false, 2)
 unfolding sub ofBits le hypotOf isqrt allWithin
     distance measure.startPen measure.moveTo measure.lineTo measure.step measure.steps measure.lengthAfter measure.pathLength
-    reader.sizeOfCode reader.commandAt reader.commandChecks reader.readCommand judge.inFront judge.readList judge.placeOf
-    reach.firstCommands reach.longEnough reach.oneMore reach.fewest reach.replied reach.isLength lengthReaches
+    reader.sizeOfCode reader.commandAt reader.commandChecks reader.readCommand judge.inFront judge.readList judge.judgeList judge.placeOf measureList
+    reach.firstLength reach.longEnough reach.oneMore reach.fewest reach.yesOrNo reach.isLength lengthReaches
 large-length = refl
 
 large-length-enlarged : asked (times 1 (ofBits binary32 0x7f00_0000)) ≡ refused OutOfRange

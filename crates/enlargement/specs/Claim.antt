@@ -1,4 +1,5 @@
 -- The third demand of the mission, whole: every call answers a plate on the grid and the same plate enlarged by 2, 4, 8, 16, 32 or 64 alike.
+-- What later requests brought that a drawing passes through is claimed too: ellipses, needs, and whether a length is reached.
 -- `AnsweredAlike` has a field for each call:
 --
 --   drawing                     the same refusal, or the same codes and every coordinate multiplied
@@ -7,7 +8,7 @@
 --   merge                       as drawing
 --   length                      the same refusal, or the length multiplied
 --   long enough                 the same refusal, or the same reply after as many commands; the length asked for is multiplied too.
---                               Only where it is finite and so large that its multiple is not, nothing is said.
+--                               Only of a length so large that its multiple is infinite nothing is said.
 --   one command's numbers       the same refusal, place and count; the numbers multiplied
 --   ranges                      the same
 --   cut lengths                 the same refusal, or the same ranges and every cut length multiplied.
@@ -22,10 +23,8 @@
 -- second demand. The proof is proofs/Claim.antt, and proofs/Example.antt is a plate that meets the conditions. Definitions only.
 use Prim.Native.Nat.{ℕ, _≤_}
 use mathlib.Core.Path.{_≡_}
-use mathlib.Core.Bool.{true}
 use mathlib.Core.List.{List, [], _∷_, _++_, map}
 use lib.Ieee.{Float}
-use lib.Ieee.Scale.{finite}
 use lib.ListN.{take, drop}
 use Rattle.ieee.specs.Grid.{scale}
 use Rattle.command.specs.Commands.{numbersOf}
@@ -43,7 +42,7 @@ use Rattle.cut.specs.Answers.{rangesAnswer, lengthsAnswer, toldNumbers}
 use Rattle.cut.specs.Enlarged.{CutsAlike}
 use Rattle.copies.specs.Calls.{orderAnswer, transformAnswer}
 use Rattle.copies.specs.Enlarged.{movedAnswer}
-use Rattle.enlargement.specs.Plates.{Plate, PlateOnGrid, times, Enlarged}
+use Rattle.enlargement.specs.Plates.{Plate, PlateOnGrid, LengthAsked, times, Enlarged}
 use Rattle.enlargement.specs.Buffers.{FilledAlike}
 
 -- ---- the numbers that enlarging multiplies: all coordinates, the length, the numbers of the command, the cut lengths, and the copy's e and f
@@ -73,7 +72,7 @@ pub record AnsweredAlike (k : ℕ) (p p' : Plate) : Type 0 where
   pub merge-drawn : drawMerge (p' .lent .rows) (p' .lent .rowCount) (p' .items) ≡ enlargedDrawing k (drawMerge (p .lent .rows) (p .lent .rowCount) (p .items))
   pub merge-need : needOf (drawMerge (p' .lent .rows) (p' .lent .rowCount) (p' .items)) ≡ needOf (drawMerge (p .lent .rows) (p .lent .rowCount) (p .items))
   pub length-measured : measureList (p' .lent .codes) (p' .numbers) ≡ mapped (scale k) (measureList (p .lent .codes) (p .numbers))
-  pub length-reached : (finite (p .least) ≡ true → finite (p' .least) ≡ true)
+  pub length-reached : LengthAsked p p'
       → lengthReaches (p' .lent .codes) (p' .numbers) (p' .least) ≡ lengthReaches (p .lent .codes) (p .numbers) (p .least)
   pub command-found : findCommand (p' .lent .codes) (p' .numbers) (p' .lent .command) ≡ findCommand (p .lent .codes) (p .numbers) (p .lent .command)
   pub command-fault : commandFault (p' .lent .codes) (p' .numbers) (p' .lent .command) ≡ commandFault (p .lent .codes) (p .numbers) (p .lent .command)

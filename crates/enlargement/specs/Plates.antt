@@ -5,6 +5,7 @@ use mathlib.Core.Bool.{true, false}
 use mathlib.Core.List.{List, [], map}
 use lib.IntN.{pos}
 use lib.Ieee.{Float, nan, fin, binary32, fits, mul}
+use lib.Ieee.Scale.{finite}
 use lib.ListN.{length, getD}
 use Rattle.ieee.specs.Literal.{hundred32}
 use Rattle.ieee.specs.Grid.{On}
@@ -17,6 +18,7 @@ use Rattle.draw.specs.Paths.{drawPath}
 use Rattle.draw.specs.Items.{drawItem}
 use Rattle.join.specs.Merge.{drawMerge}
 use Rattle.join.specs.Joined.{JoinedRow}
+use Rattle.reach.specs.Reach.{isLength}
 use Rattle.trim.specs.declared.TrimStyle.{TrimStyle}
 use Rattle.repeater.specs.declared.RepeaterStyle.{RepeaterStyle}
 
@@ -79,8 +81,8 @@ pub data Made : List PathCommand → Type 0 where
   of-merge : (rows : List ℕ) (n : ℕ) (items : List Float) (cs : List PathCommand) → GridAt (OfMerge rows n) items → drawMerge rows n items ≡ accepted cs → Made cs
 
 -- The conditions of the third demand: every number that is read as a coordinate is on the grid, the command list is made of such, and the repeater
--- scales by 100. That the repeater has no rotation is not asked: one that has is refused alike. Of the length that is asked for only that it is an f32, as
--- whatever is handed to the call is. Nothing is asked of numbers that are not read, nor of all else.
+-- scales by 100. That the repeater has no rotation is not asked: one that has is refused alike. Nothing is asked of numbers that are not read, nor of
+-- all else.
 pub record PlateOnGrid (p : Plate) : Type 0 where
   pub vertices : GridAt (OfVertices (p .lent .count)) (p .vertices)
   pub row : GridAt (OfRow (itemRow (p .lent .row) 0)) (p .items)
@@ -89,13 +91,18 @@ pub record PlateOnGrid (p : Plate) : Type 0 where
   pub made : Made commands
   pub codes-are : p .lent .codes ≡ codesOf commands
   pub numbers-are : p .numbers ≡ numbersOf commands
-  pub least-single : fits binary32 (p .least) ≡ true
   pub scale-x : p .repeater .scale .x ≡ hundred32
   pub scale-y : p .repeater .scale .y ≡ hundred32
   pub position-x : OnGrid (p .repeater .position .x)
   pub position-y : OnGrid (p .repeater .position .y)
   pub anchor-x : OnGrid (p .repeater .anchor .x)
   pub anchor-y : OnGrid (p .repeater .anchor .y)
+
+-- What is asked of the length that is to be reached, for the call about it alone: it is an f32, as whatever is handed to the call is, and where it is a
+-- length its multiple in the enlarged plate is finite.
+pub record LengthAsked (p p' : Plate) : Type 0 where
+  pub single : fits binary32 (p .least) ≡ true
+  pub multiple : isLength (p .least) ≡ true → finite (p' .least) ≡ true
 
 -- ---- enlarging
 

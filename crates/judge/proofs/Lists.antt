@@ -79,5 +79,7 @@ read-within (c ∷ cs) v ps e =
     ap (λ (qs : List PathCommand). allWithin commandLimit (numbersOf qs)) (f .is)
     ∙ within-append commandLimit (coordinatesOf (f .command)) (numbersOf (f .rest))
     ∙ ap₂ _&&_
-    (ap (λ (p : PathCommand). allWithin commandLimit (coordinatesOf p)) (a .is) ∙ ap (allWithin commandLimit) (coordinates-at c v (a .listed) (a .inside)) ∙ a .within)
+    (ap (λ (p : PathCommand). allWithin commandLimit (coordinatesOf p)) (a .is)
+    ∙ ap (allWithin commandLimit) (coordinates-at c v (a .listed) (a .inside))
+    ∙ a .within)
     (read-within cs (drop (sizeOfCode c) v) (f .rest) (f .rest-is))

@@ -24,8 +24,11 @@ readList [] v = checked ((not (eqb (length v) 0) gives OutOfBounds) ∷ []) (acc
 readList (c ∷ cs) v = andThen (readCommand c v) (inFront (readList cs (drop (sizeOfCode c) v)))
 
 -- the length limit is first: over 262,144 commands is 2
+abbrev pub mostCommands : ℕ
+mostCommands = 262144
+
 unfoldable pub judgeList : List ℕ → List Float → Outcome (List PathCommand)
-judgeList codes numbers = checked ((ltb 262144 (length codes) gives TooMany) ∷ []) (readList codes numbers)
+judgeList codes numbers = checked ((ltb mostCommands (length codes) gives TooMany) ∷ []) (readList codes numbers)
 
 -- the outcome that a `Judged` is, and an outcome without its commands
 abbrev pub judgedOf : Judged → Outcome (Unit {0})

@@ -5,7 +5,7 @@ use mathlib.Core.Option.{Option, none, some}
 use Prim.Native.Nat.{ℕ, zero, suc, _≤_, _<_, zero-le}
 use native.Mathlib.Omega.{arith}
 use Rattle.reach.specs.Reach.{oneMore, fewest}
-use Rattle.reach.specs.Laws.{Least, FewestIsLeast}
+use Rattle.reach.specs.Stops.{Least, FewestIsLeast}
 
 -- the test from 1 on
 abbrev next : (ℕ → Bool) → ℕ → Bool

@@ -11,13 +11,13 @@ use lib.Ieee.{Float, le}
 use lib.ListN.{length, drop}
 use Rattle.command.specs.declared.PathCommand.{PathCommand}
 use Rattle.command.specs.declared.Refusal.{Refusal}
-use Rattle.command.specs.Outcomes.{Outcome, refused, accepted, mapped, andThen, valueOr}
+use Rattle.command.specs.Outcomes.{Outcome, refused, accepted, mapped, andThen}
 use Rattle.reader.specs.Read.{sizeOfCode, readCommand}
 use Rattle.judge.specs.Lists.{inFront, readList}
 use Rattle.measure.specs.declared.Pen.{Pen}
 use Rattle.measure.specs.Length.{step, steps}
-use Rattle.reach.specs.Reach.{firstCommands, oneMore, fewest, replied}
-use Rattle.reach.proofs.Prefix.{first-none, first-suc}
+use Rattle.reach.specs.Reach.{oneMore, fewest, yesOrNo}
+use Rattle.reach.proofs.Prefix.{firstCommands, first-none, first-suc, lengthFrom, reached, enoughFrom}
 use Rattle.reach.proofs.Fewest.{fewest-none}
 
 -- n commands have been read
@@ -27,13 +27,7 @@ walk least pen n (c ∷ cs) v =
     cond (le least (pen .length)) (accepted (true, n))
     (andThen (readCommand c v) (λ (p : PathCommand). walk least (step pen p) (suc n) cs (drop (sizeOfCode c) v)))
 
--- ---- the test of the rule from a pen on
-abbrev reached : Float → Pen → Outcome (List PathCommand) → Bool
-reached least pen o = valueOr false (mapped (λ (cs : List PathCommand). le least (steps pen cs .length)) o)
-
-unfoldable pub enoughFrom : Pen → List ℕ → List Float → Float → ℕ → Bool
-enoughFrom pen codes v least n = reached least pen (firstCommands n codes v)
-
+-- ---- the test of the rule, one command later
 enough-none : (pen : Pen) (codes : List ℕ) (v : List Float) (least : Float) → enoughFrom pen codes v least 0 ≡ le least (pen .length)
 unfolding enoughFrom steps
 enough-none pen codes v least = ap (reached least pen) (first-none codes v)
@@ -66,49 +60,52 @@ one-later n m = omega arith
 abbrev pub later : ℕ → Outcome (Bool × ℕ) → Outcome (Bool × ℕ)
 later n o = mapped (λ (reply : Bool × ℕ). (reply .0, n + reply .1)) o
 
-reply-later : (n last : ℕ) (p : PathCommand) (o : Option ℕ) (read : Outcome (List PathCommand))
-    → later (suc n) (replied o last read) ≡ later n (replied (oneMore o) (suc last) (inFront read p))
-unfolding replied inFront oneMore
-reply-later n last p none (refused r) = refl
-reply-later n last p none (accepted cs) = ap (λ (k : ℕ). accepted (false, k)) (one-later n last)
-reply-later n last p (some m) read = ap (λ (k : ℕ). accepted (true, k)) (one-later n m)
+-- The reply does not hang on how long the whole list is, so f and g may be any lengths.
+module _ (f g : List PathCommand → Float) where
+  reply-later : (n last : ℕ) (p : PathCommand) (o : Option ℕ) (read : Outcome (List PathCommand))
+      → later (suc n) (yesOrNo o last (mapped g read)) ≡ later n (yesOrNo (oneMore o) (suc last) (mapped f (inFront read p)))
+  unfolding yesOrNo inFront oneMore
+  reply-later n last p none (refused r) = refl
+  reply-later n last p none (accepted cs) = ap (λ (k : ℕ). accepted (false, k)) (one-later n last)
+  reply-later n last p (some m) read = ap (λ (k : ℕ). accepted (true, k)) (one-later n m)
+
+  -- a command that is read: the same rule for those after it
+  read-on : (n last : ℕ) (test test' : ℕ → Bool) (p : PathCommand) (read : Outcome (List PathCommand)) → test 0 ≡ false → ((m : ℕ) → test (suc m) ≡ test' m)
+      → later (suc n) (yesOrNo (fewest test' last) last (mapped g read)) ≡ later n (yesOrNo (fewest test (suc last)) (suc last) (mapped f (inFront read p)))
+  unfolding fewest
+  read-on n last test test' p read e h =
+      rw e (reply-later n last p (fewest test' last) read
+      ∙ ap (λ (t : ℕ → Bool). later n (yesOrNo (oneMore (fewest t last)) (suc last) (mapped f (inFront read p)))) (λ i m. sym (h m) i))
 
 -- the test holds at once
-at-once : (n last all : ℕ) (test : ℕ → Bool) (read : Outcome (List PathCommand)) → test 0 ≡ true
-    → accepted (true, n) ≡ later n (replied (fewest test last) all read)
-unfolding replied fewest
-at-once n zero all test read e = rw (e, add-zero)
-at-once n (suc last) all test read e = rw (e, add-zero)
+at-once : (n last all : ℕ) (test : ℕ → Bool) (measured : Outcome Float) → test 0 ≡ true → accepted (true, n) ≡ later n (yesOrNo (fewest test last) all measured)
+unfolding yesOrNo fewest
+at-once n zero all test measured e = rw (e, add-zero)
+at-once n (suc last) all test measured e = rw (e, add-zero)
 
-none-left : (n : ℕ) (test : ℕ → Bool) (read : Outcome (List PathCommand)) → test 0 ≡ false
-    → mapped (λ (cs : List PathCommand). (false, n)) read ≡ later n (replied (fewest test 0) 0 read)
-unfolding replied fewest
-none-left n test (refused r) e = rw e
-none-left n test (accepted cs) e = rw (e, add-zero)
+-- after the last command
+none-left : (f : List PathCommand → Float) (n : ℕ) (test : ℕ → Bool) (read : Outcome (List PathCommand)) → test 0 ≡ false
+    → mapped (λ (cs : List PathCommand). (false, n)) read ≡ later n (yesOrNo (fewest test 0) 0 (mapped f read))
+unfolding yesOrNo fewest
+none-left f n test (refused r) e = rw e
+none-left f n test (accepted cs) e = rw (e, add-zero)
 
 -- a command that is refused
-stopped : (n last all : ℕ) (test : ℕ → Bool) (r : Refusal) → ((m : ℕ) → test m ≡ false) → refused r ≡ later n (replied (fewest test last) all (refused r))
-unfolding replied
+stopped : (n last all : ℕ) (test : ℕ → Bool) (r : Refusal) → ((m : ℕ) → test m ≡ false) → refused r ≡ later n (yesOrNo (fewest test last) all (refused r))
+unfolding yesOrNo
 stopped n last all test r h = rw (fewest-none test last (λ m l. h m))
 
--- a command that is read: the same rule for those after it
-onward : (n last : ℕ) (test test' : ℕ → Bool) (p : PathCommand) (read : Outcome (List PathCommand)) → test 0 ≡ false → ((m : ℕ) → test (suc m) ≡ test' m)
-    → later (suc n) (replied (fewest test' last) last read) ≡ later n (replied (fewest test (suc last)) (suc last) (inFront read p))
-unfolding fewest
-onward n last test test' p read e h =
-    rw e (reply-later n last p (fewest test' last) read
-    ∙ ap (λ (t : ℕ → Bool). later n (replied (oneMore (fewest t last)) (suc last) (inFront read p))) (λ i m. sym (h m) i))
-
 pub walk-is : (least : Float) (pen : Pen) (n : ℕ) (codes : List ℕ) (v : List Float)
-    → walk least pen n codes v ≡ later n (replied (fewest (enoughFrom pen codes v least) (length codes)) (length codes) (readList codes v))
+    → walk least pen n codes v
+    ≡ later n (yesOrNo (fewest (enoughFrom pen codes v least) (length codes)) (length codes) (mapped (lengthFrom pen) (readList codes v)))
 unfolding walk readList
 walk-is least pen n [] v = go (le least (pen .length)) (enough-none pen [] v least)
   where
     go : (b : Bool) → enoughFrom pen [] v least 0 ≡ b
         → cond b (accepted (true, n)) (mapped (λ (cs : List PathCommand). (false, n)) (readList [] v))
-        ≡ later n (replied (fewest (enoughFrom pen [] v least) 0) 0 (readList [] v))
-    go true e = at-once n 0 0 (enoughFrom pen [] v least) (readList [] v) e
-    go false e = none-left n (enoughFrom pen [] v least) (readList [] v) e
+        ≡ later n (yesOrNo (fewest (enoughFrom pen [] v least) 0) 0 (mapped (lengthFrom pen) (readList [] v)))
+    go true e = at-once n 0 0 (enoughFrom pen [] v least) (mapped (lengthFrom pen) (readList [] v)) e
+    go false e = none-left (lengthFrom pen) n (enoughFrom pen [] v least) (readList [] v) e
 walk-is least pen n (c ∷ cs) v =
     go (le least (pen .length)) (enough-none pen (c ∷ cs) v least) (readCommand c v) refl
     (λ (p : PathCommand). walk-is least (step pen p) (suc n) cs (drop (sizeOfCode c) v))
@@ -117,21 +114,26 @@ walk-is least pen n (c ∷ cs) v =
     rest = drop (sizeOfCode c) v
 
     -- the rule for the commands after this one, from a pen on
-    ruled : Pen → Outcome (Bool × ℕ)
-    ruled at = later (suc n) (replied (fewest (enoughFrom at cs rest least) (length cs)) (length cs) (readList cs rest))
+    rest-ruled : Pen → Outcome (Bool × ℕ)
+    rest-ruled at = later (suc n) (yesOrNo (fewest (enoughFrom at cs rest least) (length cs)) (length cs) (mapped (lengthFrom at) (readList cs rest)))
 
     test : ℕ → Bool
     test = enoughFrom pen (c ∷ cs) v least
 
+    measured : Outcome PathCommand → Outcome Float
+    measured o = mapped (lengthFrom pen) (andThen o (inFront (readList cs rest)))
+
     go : (b : Bool) → test 0 ≡ b → (o : Outcome PathCommand) → readCommand c v ≡ o
-        → ((p : PathCommand) → walk least (step pen p) (suc n) cs rest ≡ ruled (step pen p))
+        → ((p : PathCommand) → walk least (step pen p) (suc n) cs rest ≡ rest-ruled (step pen p))
         → cond b (accepted (true, n)) (andThen o (λ (p : PathCommand). walk least (step pen p) (suc n) cs rest))
-        ≡ later n (replied (fewest test (suc (length cs))) (suc (length cs)) (andThen o (inFront (readList cs rest))))
-    go true e o f then = at-once n (suc (length cs)) (suc (length cs)) test (andThen o (inFront (readList cs rest))) e
+        ≡ later n (yesOrNo (fewest test (suc (length cs))) (suc (length cs)) (measured o))
+    go true e o f then = at-once n (suc (length cs)) (suc (length cs)) test (measured o) e
     go false e (refused r) f then = stopped n (suc (length cs)) (suc (length cs)) test r never
       where
         never : (m : ℕ) → test m ≡ false
         never zero = e
         never (suc m) = enough-refused pen c cs v least m r f
     go false e (accepted p) f then =
-        then p ∙ onward n (length cs) test (enoughFrom (step pen p) cs rest least) p (readList cs rest) e (λ m. enough-next pen c cs v least m p f)
+        then p
+        ∙ read-on (lengthFrom pen) (lengthFrom (step pen p)) n (length cs) test (enoughFrom (step pen p) cs rest least) p (readList cs rest) e
+        (λ m. enough-next pen c cs v least m p f)

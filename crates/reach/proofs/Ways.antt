@@ -28,9 +28,10 @@ use Rattle.measure.specs.declared.Pen.{Pen}
 use Rattle.measure.specs.Length.{startPen, step, lengthAfter, pathLength}
 use Rattle.reach.specs.declared.Reply.{Reply}
 use Rattle.reach.specs.declared.Reply.the-variants.{Refused, Yes, No}
-use Rattle.reach.specs.Reach.{longEnough, isLength, lengthReaches, replyOf, Replied}
+use Rattle.reach.specs.Reach.{fewest, yesOrNo, isLength, lengthReaches, replyOf, Replied}
 use Rattle.reach.proofs.Rule.{ruled, reach-many, reach-unasked, reach-passed}
-use Rattle.reach.proofs.Walk.{walk, enoughFrom, later, walk-is}
+use Rattle.reach.proofs.Prefix.{measured-read, enough-from}
+use Rattle.reach.proofs.Walk.{walk, later, walk-is}
 
 -- ---- is_length
 pub length-asked : (least : Float) (b : Bool) → b ≡ finite least → (b && le zero32 least) ≡ isLength least
@@ -58,10 +59,12 @@ later-none : (o : Outcome (Bool × ℕ)) → later 0 o ≡ o
 later-none (refused r) = refl
 later-none (accepted (b, n)) = ap (λ (m : ℕ). accepted (b, m)) (zero-add n)
 
-pub walk-ruled : (codes : List ℕ) (numbers : List Float) (least : Float)
-    → walk least startPen 0 codes numbers ≡ ruled codes numbers least
-unfolding longEnough enoughFrom pathLength lengthAfter
-walk-ruled codes numbers least = walk-is least startPen 0 codes numbers ∙ later-none _
+walk-ruled : (codes : List ℕ) (numbers : List Float) (least : Float) → length codes ≤ 262144 → walk least startPen 0 codes numbers ≡ ruled codes numbers least
+unfolding pathLength lengthAfter
+walk-ruled codes numbers least few =
+    walk-is least startPen 0 codes numbers
+    ∙ later-none _
+    ∙ sym (λ i. yesOrNo (fewest (λ (n : ℕ). enough-from codes numbers least few n i) (length codes)) (length codes) (measured-read codes numbers few i))
 
 module _ (codes : List ℕ) (numbers : List Float) (least : Float) where
   pub too-many : 262144 < length codes → refused TooMany ≡ lengthReaches codes numbers least
@@ -72,19 +75,19 @@ module _ (codes : List ℕ) (numbers : List Float) (least : Float) where
     no-length e = sym (reach-unasked codes numbers least few (sym b-is ∙ not-true b e))
 
     started : not b ≡ false → walk least startPen 0 codes numbers ≡ lengthReaches codes numbers least
-    started e = walk-ruled codes numbers least ∙ sym (reach-passed codes numbers least few (sym b-is ∙ not-false b e))
+    started e = walk-ruled codes numbers least few ∙ sym (reach-passed codes numbers least few (sym b-is ∙ not-false b e))
 
   -- what is left, walked from the pen as it is, gives what the call answers
-  pub record Left (pen : Pen) (i place : ℕ) : Type 0 where
+  pub record LeftToWalk (pen : Pen) (i place : ℕ) : Type 0 where
     pub codes-inside : i ≤ length codes
     pub numbers-inside : place ≤ length numbers
     pub whole : walk least pen i (drop i codes) (drop place numbers) ≡ lengthReaches codes numbers least
 
-  pub reach-start : (few : length codes ≤ 262144) (b : Bool) (b-is : b ≡ isLength least) → not b ≡ false → (pen : Pen) → pen ≡ startPen → Left pen 0 0
+  pub reach-start : (few : length codes ≤ 262144) (b : Bool) (b-is : b ≡ isLength least) → not b ≡ false → (pen : Pen) → pen ≡ startPen → LeftToWalk pen 0 0
   reach-start few b b-is e pen pen-is =
       rw pen-is (record { codes-inside = zero-le; numbers-inside = zero-le; whole = started few b b-is e })
 
-  module _ (pen : Pen) (i place : ℕ) (left : Left pen i place) (b : Bool) (b-is : b ≡ le least (pen .length)) where
+  module _ (pen : Pen) (i place : ℕ) (left : LeftToWalk pen i place) (b : Bool) (b-is : b ≡ le least (pen .length)) where
     abbrev v : List Float
     v = drop place numbers
 
@@ -131,7 +134,7 @@ module _ (codes : List ℕ) (numbers : List Float) (least : Float) where
         reach-refused refusal f =
             sym (ap (λ (o : Outcome PathCommand). andThen o after) (read-refused c numbers place r r-is refusal f)) ∙ onward
 
-        pub reach-next : (p : PathCommand) (next : ℕ) → r ≡ read.Command p next → (pen' : Pen) → pen' ≡ step pen p → Left pen' (i + 1) next
+        pub reach-next : (p : PathCommand) (next : ℕ) → r ≡ read.Command p next → (pen' : Pen) → pen' ≡ step pen p → LeftToWalk pen' (i + 1) next
         reach-next p next f pen' pen-is =
             let taken = read-taken c numbers place r r-is (left .numbers-inside) p next f in
             rw (pen-is, add-one)

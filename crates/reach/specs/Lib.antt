@@ -1,3 +1,3 @@
 -- Long enough yet: whether a command list reaches a length, and after how many commands.
 pub mod Reach
-pub mod Laws
+pub mod Stops

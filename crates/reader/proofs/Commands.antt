@@ -125,7 +125,7 @@ command-part c v h l =
     ∙ ap (commandAt (codeOf (commandAt c v))) (sym (append-nil (coordinatesOf (commandAt c v))))
     ∙ command-of (commandAt c v) []
 
--- so lists that have these numbers in common have one answer
+-- a list that begins as another one does is as long as that beginning
 pub long-alike : {A : Type 0} (n : ℕ) (v w : List A) → take n v ≡ take n w → n ≤ length v → n ≤ length w
 long-alike n v w e h = omega (arith, ap length e, length-take-le n v h, simp length-append at (ap length (take-append-drop n w)))
 
@@ -144,6 +144,7 @@ front-by c v w e false false a b =
     let same : commandAt c v ≡ commandAt c w = sym (command-part c v h l) ∙ ap (commandAt c) e ∙ command-part c w h m in
     rw (a, b, le-ltb (length w) (sizeOfCode c) m, e, same)
 
+-- lists that have the command's own numbers in common have one answer
 pub read-front : (c : ℕ) (v w : List Float) → take (sizeOfCode c) v ≡ take (sizeOfCode c) w → readCommand c v ≡ readCommand c w
 read-front c v w e = front-by c v w e (ltb 4 c) (ltb (length v) (sizeOfCode c)) refl refl
 

@@ -2,12 +2,12 @@
 use borrow.Author.Needs.{needs}
 use Prim.Native.Nat.{_-_}
 use lib.ListN.{length}
-use Rattle.reach.proofs.Ways.{Left, reaching}
+use Rattle.reach.proofs.Ways.{LeftToWalk, reaching}
 use Rattle.reach.proofs.length_reaches.Statement.{statement}
 use Rattle.reach.proofs.length_reaches.Tie as tie
 
 abbrev Inv-loop : tie.InvT-loop
-Inv-loop codes numbers least pen₀ i₀ place₀ pen i place = Left codes numbers least pen i place
+Inv-loop codes numbers least pen₀ i₀ place₀ pen i place = LeftToWalk codes numbers least pen i place
 
 abbrev μ-loop : tie.MeasureT-loop
 μ-loop codes numbers least pen₀ i₀ place₀ pen i place = length codes - i
