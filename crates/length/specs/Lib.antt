@@ -1,2 +1,3 @@
--- The length of a lent command list.
+-- The length of a lent command list; and the walk by which the code comes to it.
 pub mod Lists
+pub mod Walk

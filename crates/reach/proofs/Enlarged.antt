@@ -25,7 +25,8 @@ use Rattle.measure.specs.Length.{pathLength}
 use Rattle.measure.proofs.Enlarged.{running-twins}
 use Rattle.reach.specs.Reach.{longEnough, fewest, yesOrNo, isLength, lengthReaches}
 use Rattle.reach.proofs.Rule.{ruled, reach-alike}
-use Rattle.reach.proofs.Prefix.{measured-read, enough-accepted}
+use Rattle.length.proofs.Walks.{measured-read}
+use Rattle.reach.proofs.Prefix.{enough-accepted}
 
 -- ---- the length that is asked for
 finite-scale : (k : ℕ) (x : Float) → finite (scale k x) ≡ finite x

@@ -9,17 +9,16 @@ use native.Mathlib.Omega.{arith}
 use lib.Ieee.{Float, le}
 use lib.ListN.{length, take, drop, length-append, take-append-drop}
 use lib.Seq.{take-nil, take-take}
-use borrow.Author.Tests.{le-ltb}
 use Rattle.command.specs.declared.PathCommand.{PathCommand}
 use Rattle.command.specs.Outcomes.{Outcome, refused, accepted, mapped, andThen, valueOr}
 use Rattle.reader.specs.Read.{sizeOfCode, readCommand}
 use Rattle.reader.proofs.Commands.{read-front}
-use Rattle.judge.specs.Lists.{inFront, readList, judgeList, placeOf}
+use Rattle.judge.specs.Lists.{inFront, readList, placeOf}
 use Rattle.judge.proofs.Ways.{front}
 use Rattle.judge.proofs.Lists.{none-read}
 use Rattle.measure.specs.declared.Pen.{Pen}
-use Rattle.measure.specs.Length.{startPen, steps, lengthAfter, pathLength}
-use Rattle.length.specs.Lists.{measureList}
+use Rattle.measure.specs.Length.{startPen, lengthAfter, pathLength}
+use Rattle.length.proofs.Walks.{lengthFrom, measured-read}
 use Rattle.reach.specs.Reach.{firstLength, longEnough}
 
 -- ---- the first n commands, read
@@ -57,20 +56,11 @@ first-accepted (c ∷ cs) v ps e (suc n) =
     ∙ unfold inFront in (ap (λ (qs : List PathCommand). accepted (take (suc n) qs)) (sym (f .is)))
 
 -- ---- the test of the rule, from a pen on
--- the length after the commands that are read
-abbrev pub lengthFrom : Pen → List PathCommand → Float
-lengthFrom pen cs = steps pen cs .length
-
 abbrev pub reached : Float → Pen → Outcome (List PathCommand) → Bool
 reached least pen o = valueOr false (mapped (λ (cs : List PathCommand). le least (lengthFrom pen cs)) o)
 
 unfoldable pub enoughFrom : Pen → List ℕ → List Float → Float → ℕ → Bool
 enoughFrom pen codes v least n = reached least pen (firstCommands n codes v)
-
--- a list that is not too long is measured as it is read
-pub measured-read : (codes : List ℕ) (v : List Float) → length codes ≤ 262144 → measureList codes v ≡ mapped pathLength (readList codes v)
-unfolding measureList judgeList
-measured-read codes v few = rw (le-ltb 262144 (length codes) few)
 
 few-first : (n : ℕ) (codes : List ℕ) → length codes ≤ 262144 → length (take n codes) ≤ 262144
 few-first n codes few = omega (arith, simp length-append at (ap length (take-append-drop n codes)))

@@ -27,6 +27,7 @@ use Rattle.judge.proofs.Lists.{read-within, read-written}
 use Rattle.measure.specs.Length.{startPen, steps, pathLength}
 use Rattle.measure.proofs.Rising.{length-rise}
 use Rattle.length.specs.Lists.{measureList}
+use Rattle.length.proofs.Ways.{length-many}
 use Rattle.reach.specs.Reach.{firstLength, longEnough, fewest, yesOrNo, isLength, reachChecks, lengthReaches, commandsRead}
 use Rattle.reach.specs.Stops.{Least, YesAfterFewest, NoAfterAll, ZeroAfterNone, RepliesAsMeasured, UnseenPast, RefusedAsMeasured}
 use Rattle.reach.proofs.Rule.{ruled, reach-is, reach-many, reach-passed}
@@ -197,10 +198,6 @@ unseen-past codes codes' numbers numbers' least n e few codes-alike numbers-alik
     (long-alike n codes codes' (sym codes-alike) (y .1))
 
 -- ---- 'other faults are refused as the length refuses them'
-measured-many : (codes : List ℕ) (numbers : List Float) → ltb 262144 (length codes) ≡ true → measureList codes numbers ≡ refused TooMany
-unfolding measureList judgeList
-measured-many codes numbers e = rw e
-
 pub refused-as-measured : RefusedAsMeasured
 unfolding yesOrNo
 refused-as-measured codes numbers least r right e = go (ltb 262144 (length codes)) refl
@@ -212,8 +209,9 @@ refused-as-measured codes numbers least r right e = go (ltb 262144 (length codes
 
     go : (b : Bool) → ltb 262144 (length codes) ≡ b → measureList codes numbers ≡ refused r
     go true f =
-        let same : TooMany ≡ r = cc (reach-many codes numbers least (ltb-true 262144 (length codes) f)) in
-        measured-many codes numbers f ∙ ap refused same
+        let many = ltb-true 262144 (length codes) f in
+        let same : TooMany ≡ r = cc (reach-many codes numbers least many) in
+        sym (length-many codes numbers many) ∙ ap refused same
     go false f =
         faulty (fewest (longEnough codes numbers least) (length codes)) (measureList codes numbers)
         (sym (reach-passed codes numbers least (ltb-false 262144 (length codes) f) right) ∙ e)

@@ -1,4 +1,4 @@
--- The walk that stops: from a pen on, a command at a time, until the length is reached. From the first pen it gives what the rule of the fewest gives.
+-- A walk up to a length tells what the rule of the fewest gives.
 -- Assumes nothing.
 use mathlib.Core.Path.{_≡_, refl, sym, ap, _∙_}
 use mathlib.Core.Bool.{Bool, true, false, cond}
@@ -16,16 +16,16 @@ use Rattle.reader.specs.Read.{sizeOfCode, readCommand}
 use Rattle.judge.specs.Lists.{inFront, readList}
 use Rattle.measure.specs.declared.Pen.{Pen}
 use Rattle.measure.specs.Length.{step, steps}
+use Rattle.length.specs.declared.Until.the-variants.{Length}
+use Rattle.length.specs.Walk.{isThere, walkFrom}
+use Rattle.length.proofs.Walks.{lengthFrom}
 use Rattle.reach.specs.Reach.{oneMore, fewest, yesOrNo}
-use Rattle.reach.proofs.Prefix.{firstCommands, first-none, first-suc, lengthFrom, reached, enoughFrom}
+use Rattle.reach.proofs.Prefix.{firstCommands, first-none, first-suc, reached, enoughFrom}
 use Rattle.reach.proofs.Fewest.{fewest-none}
 
--- n commands have been read
-unfoldable pub walk : Float → Pen → ℕ → List ℕ → List Float → Outcome (Bool × ℕ)
-walk least pen n [] v = cond (le least (pen .length)) (accepted (true, n)) (mapped (λ (cs : List PathCommand). (false, n)) (readList [] v))
-walk least pen n (c ∷ cs) v =
-    cond (le least (pen .length)) (accepted (true, n))
-    (andThen (readCommand c v) (λ (p : PathCommand). walk least (step pen p) (suc n) cs (drop (sizeOfCode c) v)))
+-- what a walk tells: whether it was reached, and after how many commands
+abbrev pub told : Outcome (Bool × ℕ × Float) → Outcome (Bool × ℕ)
+told o = mapped (λ (w : Bool × ℕ × Float). (w .0, w .1)) o
 
 -- ---- the test of the rule, one command later
 enough-none : (pen : Pen) (codes : List ℕ) (v : List Float) (least : Float) → enoughFrom pen codes v least 0 ≡ le least (pen .length)
@@ -84,11 +84,11 @@ at-once n zero all test measured e = rw (e, add-zero)
 at-once n (suc last) all test measured e = rw (e, add-zero)
 
 -- after the last command
-none-left : (f : List PathCommand → Float) (n : ℕ) (test : ℕ → Bool) (read : Outcome (List PathCommand)) → test 0 ≡ false
-    → mapped (λ (cs : List PathCommand). (false, n)) read ≡ later n (yesOrNo (fewest test 0) 0 (mapped f read))
+none-left : (f : List PathCommand → Float) (x : Float) (n : ℕ) (test : ℕ → Bool) (read : Outcome (List PathCommand)) → test 0 ≡ false
+    → told (mapped (λ (cs : List PathCommand). (false, n, x)) read) ≡ later n (yesOrNo (fewest test 0) 0 (mapped f read))
 unfolding yesOrNo fewest
-none-left f n test (refused r) e = rw e
-none-left f n test (accepted cs) e = rw (e, add-zero)
+none-left f x n test (refused r) e = rw e
+none-left f x n test (accepted cs) e = rw (e, add-zero)
 
 -- a command that is refused
 stopped : (n last all : ℕ) (test : ℕ → Bool) (r : Refusal) → ((m : ℕ) → test m ≡ false) → refused r ≡ later n (yesOrNo (fewest test last) all (refused r))
@@ -96,16 +96,16 @@ unfolding yesOrNo
 stopped n last all test r h = rw (fewest-none test last (λ m l. h m))
 
 pub walk-is : (least : Float) (pen : Pen) (n : ℕ) (codes : List ℕ) (v : List Float)
-    → walk least pen n codes v
+    → told (walkFrom (Length least) pen n codes v)
     ≡ later n (yesOrNo (fewest (enoughFrom pen codes v least) (length codes)) (length codes) (mapped (lengthFrom pen) (readList codes v)))
-unfolding walk readList
+unfolding walkFrom isThere readList
 walk-is least pen n [] v = go (le least (pen .length)) (enough-none pen [] v least)
   where
     go : (b : Bool) → enoughFrom pen [] v least 0 ≡ b
-        → cond b (accepted (true, n)) (mapped (λ (cs : List PathCommand). (false, n)) (readList [] v))
+        → told (cond b (accepted (true, n, pen .length)) (mapped (λ (cs : List PathCommand). (false, n, pen .length)) (readList [] v)))
         ≡ later n (yesOrNo (fewest (enoughFrom pen [] v least) 0) 0 (mapped (lengthFrom pen) (readList [] v)))
     go true e = at-once n 0 0 (enoughFrom pen [] v least) (mapped (lengthFrom pen) (readList [] v)) e
-    go false e = none-left (lengthFrom pen) n (enoughFrom pen [] v least) (readList [] v) e
+    go false e = none-left (lengthFrom pen) (pen .length) n (enoughFrom pen [] v least) (readList [] v) e
 walk-is least pen n (c ∷ cs) v =
     go (le least (pen .length)) (enough-none pen (c ∷ cs) v least) (readCommand c v) refl
     (λ (p : PathCommand). walk-is least (step pen p) (suc n) cs (drop (sizeOfCode c) v))
@@ -113,7 +113,10 @@ walk-is least pen n (c ∷ cs) v =
     rest : List Float
     rest = drop (sizeOfCode c) v
 
-    -- the rule for the commands after this one, from a pen on
+    -- the walk after this command, and the rule for the commands after it, from a pen on
+    rest-walked : Pen → Outcome (Bool × ℕ × Float)
+    rest-walked at = walkFrom (Length least) at (suc n) cs rest
+
     rest-ruled : Pen → Outcome (Bool × ℕ)
     rest-ruled at = later (suc n) (yesOrNo (fewest (enoughFrom at cs rest least) (length cs)) (length cs) (mapped (lengthFrom at) (readList cs rest)))
 
@@ -124,8 +127,8 @@ walk-is least pen n (c ∷ cs) v =
     measured o = mapped (lengthFrom pen) (andThen o (inFront (readList cs rest)))
 
     go : (b : Bool) → test 0 ≡ b → (o : Outcome PathCommand) → readCommand c v ≡ o
-        → ((p : PathCommand) → walk least (step pen p) (suc n) cs rest ≡ rest-ruled (step pen p))
-        → cond b (accepted (true, n)) (andThen o (λ (p : PathCommand). walk least (step pen p) (suc n) cs rest))
+        → ((p : PathCommand) → told (rest-walked (step pen p)) ≡ rest-ruled (step pen p))
+        → told (cond b (accepted (true, n, pen .length)) (andThen o (λ (p : PathCommand). rest-walked (step pen p))))
         ≡ later n (yesOrNo (fewest test (suc (length cs))) (suc (length cs)) (measured o))
     go true e o f then = at-once n (suc (length cs)) (suc (length cs)) test (measured o) e
     go false e (refused r) f then = stopped n (suc (length cs)) (suc (length cs)) test r never
