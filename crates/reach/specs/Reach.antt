@@ -23,7 +23,7 @@ use Rattle.reach.specs.declared.Reply.the-variants.{Refused, Yes, No}
 unfoldable pub firstLength : ℕ → List ℕ → List Float → Outcome Float
 firstLength n codes numbers = measureList (take n codes) (take (placeOf n codes) numbers)
 
--- it is at least L. No commands are 0 long, so 'L = 0 is yes after none', whatever the list holds.
+-- it is at least L. The length of no commands is 0, so 'L = 0 is yes after none', whatever the list holds.
 unfoldable pub longEnough : List ℕ → List Float → Float → ℕ → Bool
 longEnough codes numbers least n = valueOr false (mapped (le least) (firstLength n codes numbers))
 
