@@ -286,13 +286,17 @@ big-on f s m d e b t lo hi =
     }
 
 -- ---- the exact multiple is the product with the float 2 ^ k, rounded
+doubled : (f : Format) (k q : ℕ) (x : Float) (s : Bool) (n : ℕ) → HasValue x s n (2 ^ q) → mul f x (fin false 1 (pos k)) ≡ round f s (n * 2 ^ k) (2 ^ q)
+doubled f k q x s n X =
+    let v : HasValue (fin false 1 (pos k)) false (2 ^ k) 1 = (refl, ap (λ (z : ℕ). z * 1) (one-mul (2 ^ k))) in
+    mul-at f x (fin false 1 (pos k)) s false n (2 ^ q) (2 ^ k) 1 (pow-pos q) (zero-lt-suc 0) X v
+    ∙ (λ i. round f (unlike-false s i) (n * 2 ^ k) (mul-one (2 ^ q) i))
+
 pub mul-pow : (f : Format) (k q b : ℕ) (x : Float) → q ≤ low f → b + k ≤ emax f → T (fits f x) → On q b x → mul f x (fin false 1 (pos k)) ≡ scale k x
 mul-pow f k q b x Q B t X =
     let s = X .sign in
     let n = X .count in
-    let v : HasValue (fin false 1 (pos k)) false (2 ^ k) 1 = (refl, ap (λ (z : ℕ). z * 1) (one-mul (2 ^ k))) in
-    mul-at f x (fin false 1 (pos k)) s false n (2 ^ q) (2 ^ k) 1 (pow-pos q) (zero-lt-suc 0) (X .value) v
-    ∙ (λ i. round f (unlike-false s i) (n * 2 ^ k) (mul-one (2 ^ q) i))
+    doubled f k q x s n (X .value)
     ∙ round-scale f s n (2 ^ q) q n k (pow-pos q) Q refl (under-top f q b k (cut (prec f) n) B (cut-le-pow (prec f) n (b + q) (prec-pos f) (X .bound)))
     ∙ ap (scale k) (round-own f x s n (2 ^ q) t (pow-pos q) (X .value))
 
@@ -327,10 +331,7 @@ module _ (f : Format) (k : ℕ) (s : Bool) (m : ℕ) (e : ℤ) (t : T (fits f (f
   U = in-units f s m e t
 
   as-units : mul f x (fin false 1 (pos k)) ≡ round f s (U .count * 2 ^ k) (2 ^ low f)
-  as-units =
-      let v : HasValue (fin false 1 (pos k)) false (2 ^ k) 1 = (refl, ap (λ (z : ℕ). z * 1) (one-mul (2 ^ k))) in
-      mul-at f x (fin false 1 (pos k)) s false (U .count) (2 ^ low f) (2 ^ k) 1 (pow-pos (low f)) (zero-lt-suc 0) (U .value) v
-      ∙ (λ i. round f (unlike-false s i) (U .count * 2 ^ k) (mul-one (2 ^ low f) i))
+  as-units = doubled f k (low f) x s (U .count) (U .value)
 
   below : U .count * 2 ^ k < overflow f → mul f x (fin false 1 (pos k)) ≡ scale k x
   below h =

@@ -1,6 +1,6 @@
 -- A walk down a command list, a command at a time, that carries a state: what is left, folded from the state as it is, gives what the whole gives from
 -- the first state.
--- Whoever reads a list to its end stands on these laws, with a fold of its own. Assumes nothing.
+-- Judging, which goes to the end of a list and carries nothing, stands on these laws. Assumes nothing.
 use mathlib.Core.Path.{_≡_, refl, sym, ap, _∙_}
 use mathlib.Core.List.{List, [], _∷_}
 use Prim.Native.Nat.{ℕ, suc, _+_, _≤_, _<_, zero-le}

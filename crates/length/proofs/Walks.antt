@@ -27,7 +27,7 @@ unfolding measureList judgeList
 measured-read codes v few = rw (le-ltb 262144 (length codes) few)
 
 -- the length that a walk came to
-abbrev lengthOf : Outcome (Bool × ℕ × Float) → Outcome Float
+abbrev pub lengthOf : Outcome (Bool × ℕ × Float) → Outcome Float
 lengthOf o = mapped (λ (x : Bool × ℕ × Float). x .2) o
 
 walk-through : (pen : Pen) (n : ℕ) (codes : List ℕ) (v : List Float) → lengthOf (walkFrom End pen n codes v) ≡ mapped (lengthFrom pen) (readList codes v)

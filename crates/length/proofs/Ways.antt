@@ -31,7 +31,7 @@ use Rattle.length.specs.declared.Walked.{Walked}
 use Rattle.length.specs.declared.Walked.the-variants.{Refused, To}
 use Rattle.length.specs.Lists.{measureList, measuredOf}
 use Rattle.length.specs.Walk.{isThere, walkFrom, walkedOf}
-use Rattle.length.proofs.Walks.{walk-end}
+use Rattle.length.proofs.Walks.{lengthOf, walk-end}
 
 -- ---- is_there
 module _ (until : Until) (pen : Pen) where
@@ -145,10 +145,6 @@ module _ (codes : List ℕ) (numbers : List Float) where
   length-many many = rw (lt-ltb 262144 (length codes) many)
 
   module _ (few : length codes ≤ 262144) (w : Walked) (w-is : walkedOf w ≡ walkFrom End startPen 0 codes numbers) where
-    -- the length that a walk came to
-    abbrev lengthOf : Outcome (Bool × ℕ × Float) → Outcome Float
-    lengthOf o = mapped (λ (x : Bool × ℕ × Float). x .2) o
-
     pub length-refused : (r : Refusal) → w ≡ Refused r → refused r ≡ measureList codes numbers
     length-refused r e = ap (λ (x : Walked). lengthOf (walkedOf x)) (sym e) ∙ ap lengthOf w-is ∙ walk-end codes numbers few
 

@@ -69,7 +69,7 @@ module _ (codes : List ℕ) (numbers : List Float) (least : Float) where
           → Least test n × (n ≤ length codes)
       go (some m) f measured g = fewest-is-least test (length codes) .0 n .0 (f ∙ ap some (as-many true true m n g))
       go none f (refused r) g = refused-accepted r (true, n) g
-      go none f (accepted x) g = yes-is-no n (length codes) (sym g)
+      go none f (accepted x) g = yes-is-no n _ (sym g)
 
 pub yes-after-fewest : YesAfterFewest
 yes-after-fewest codes numbers least n few right = (
@@ -205,7 +205,7 @@ refused-as-measured codes numbers least r right e = go (ltb 262144 (length codes
     faulty : (o : Option ℕ) (measured : Outcome Float) → yesOrNo o (length codes) measured ≡ refused r → measured ≡ refused r
     faulty (some n) measured g = refused-accepted r (true, n) (sym g)
     faulty none (refused s) g = let same : s ≡ r = cc in ap refused same
-    faulty none (accepted x) g = refused-accepted r (false, length codes) (sym g)
+    faulty none (accepted x) g = refused-accepted r _ (sym g)
 
     go : (b : Bool) → ltb 262144 (length codes) ≡ b → measureList codes numbers ≡ refused r
     go true f =
