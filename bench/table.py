@@ -24,11 +24,11 @@ def ratio(ours, theirs):
 
 def main(folder, builds):
     tables = [times(folder, build) for build in builds]
-    print(f"{'ns':24}{'ours':>9}" + "".join(f"{NAMES[build]:>11}{'ratio':>7}" for build in builds) + "  per")
+    print(f"{'ns':30}{'ours':>9}" + "".join(f"{NAMES[build]:>11}{'ratio':>7}" for build in builds) + "  per")
     for rows in zip(*tables):
         call, unit, ours, _ = rows[0]
         pairs = "".join(f"{figure(row[3]):>11}{ratio(row[2], row[3]):>7}" for row in rows)
-        print(f"{call:24}{figure(ours):>9}{pairs}  {unit}")
+        print(f"{call:30}{figure(ours):>9}{pairs}  {unit}")
 
 
 main(sys.argv[1], sys.argv[2:])

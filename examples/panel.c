@@ -1,6 +1,6 @@
 /* A bag panel of a coin sorter, written to standard output as an SVG page. Each bag has a frame with a mouth, square or
-   round, a ring that shows how full it is, an arrow that rises beside it, and a stack of coins. Of each drawing the
-   panel first asks what it needs, and then draws it into buffers of just that size. The panel is drawn at size 1, and
+   round, a ring that shows how full it is, an arrow that rises beside it, and a stack of coins, upright or fanned out.
+   Of each drawing the panel first asks what it needs, and then draws it into buffers of just that size. The panel is drawn at size 1, and
    from enlarged input at size 2. The program compares the two and fails where the second is not the first, exactly
    enlarged.
 
@@ -74,17 +74,18 @@ enum { SQUARE, ROUND, MOUTHS };
 static const uint32_t frame_rows[MOUTHS][FRAME_ROWS][6] = {FRAME(JENGAFIR_RC), FRAME(JENGAFIR_EL)};
 static const uint32_t coin_row[6] = {JENGAFIR_EL, 0, 0, 0, COIN_PLACE, 0};
 
-/* The form of a bag's mouth, how many coins it holds, from where its ring is shown, in degrees from the right, and the
-   repeater's mode. */
+/* The form of a bag's mouth, how many coins it holds, from where its ring is shown, in degrees from the right, the
+   repeater's mode, and by how many degrees each coin of the stack is turned against the one below. */
 typedef struct {
     int mouth, coins;
     float offset;
     uint8_t mode;
+    float fan;
 } Bag;
 
 static const Bag bags[] = {
-    {SQUARE, 0, -90, 1}, {ROUND, 10, -90, 1},  {SQUARE, 25, -90, 1},
-    {ROUND, 60, -90, 1}, {SQUARE, 100, -90, 1}, {ROUND, 100, 0, 2},
+    {SQUARE, 0, -90, 1, 0},  {ROUND, 10, -90, 1, 0},   {SQUARE, 25, -90, 1, 0},
+    {ROUND, 60, -90, 1, 15}, {SQUARE, 100, -90, 1, 0}, {ROUND, 100, 0, 2, 12.5f},
 };
 #define BAGS COUNT(bags)
 
@@ -243,7 +244,7 @@ static void trim(const Bag *bag, const Path *ring, Fill *fill)
         fail("a trim has other ranges than cuts");
 }
 
-/* The coins stand one above the other, and those below are paler. */
+/* The coins stand one above the other, or fan out from the lowest on, and those below are paler. */
 static void stack(const Bag *bag, int size, Fill *fill)
 {
     const float factor = (float)size;
@@ -252,7 +253,7 @@ static void stack(const Bag *bag, int size, Fill *fill)
         MIDDLE * factor, COIN_Y * factor,
         0, -4 * factor,
         100, 100,
-        0,
+        bag->fan,
         0.5f, 1,
     };
     uint32_t refusal = jengafir_copy_order(repeater, bag->mode, fill->order, MOST_COPIES, &fill->copy_count);
@@ -337,7 +338,8 @@ static void compare_arrows(const Fill *small, const Fill *large)
         fail("an arrow is long enough for a head at one size alone, or after other commands");
 }
 
-static void compare_stacks(const Fill *small, const Fill *large)
+/* That a shift is enlarged exactly is promised of copies that are not turned. */
+static void compare_stacks(const Bag *bag, const Fill *small, const Fill *large)
 {
     if (small->copy_count != large->copy_count ||
         memcmp(small->order, large->order, small->copy_count * sizeof *small->order) != 0)
@@ -345,7 +347,8 @@ static void compare_stacks(const Fill *small, const Fill *large)
     for (size_t i = 0; i < small->copy_count; i++) {
         const float *one = small->copies[i], *two = large->copies[i];
         must_stay("a copy has another shape at the larger size", one, two, 4);
-        must_enlarge("the shift of a copy is not enlarged exactly", one + 4, two + 4, 2);
+        if (bag->fan == 0)
+            must_enlarge("the shift of a copy is not enlarged exactly", one + 4, two + 4, 2);
         must_stay("a copy has another opacity at the larger size", one + 6, two + 6, 1);
     }
 }
@@ -360,7 +363,7 @@ static void compare(const Panel *small, const Panel *large)
     for (size_t i = 0; i < BAGS; i++) {
         compare_trims(&small->fills[i], &large->fills[i]);
         compare_arrows(&small->fills[i], &large->fills[i]);
-        compare_stacks(&small->fills[i], &large->fills[i]);
+        compare_stacks(&bags[i], &small->fills[i], &large->fills[i]);
     }
 }
 
@@ -483,14 +486,14 @@ static void write_ring_caption(const Bag *bag, const Fill *fill, int x, int y)
 }
 
 /* How many coins the stack shows, and which of them is drawn first. */
-static void write_stack_caption(const Fill *fill, int x, int y)
+static void write_stack_caption(const Bag *bag, const Fill *fill, int x, int y)
 {
     begin_caption(x, y, INK);
     if (fill->copy_count == 0) {
         printf("no coins</text>\n");
         return;
     }
-    printf("a stack of %zu</text>\n", fill->copy_count);
+    printf("a %s of %zu</text>\n", bag->fan == 0 ? "stack" : "fan", fill->copy_count);
     if (fill->copy_count == 1)
         return;
     begin_caption(x, y + LINE, PALE_INK);
@@ -513,7 +516,7 @@ static void write_bag(const Panel *panel, size_t i, int top)
     printf("<g transform=\"translate(%d %d)\">\n", left, stack_top);
     write_stack(&panel->coin, fill);
     printf("</g>\n");
-    write_stack_caption(fill, middle, stack_top + STACK_HEIGHT * panel->size + LINE);
+    write_stack_caption(&bags[i], fill, middle, stack_top + STACK_HEIGHT * panel->size + LINE);
 }
 
 static void write_panel(const Panel *panel, int top)
@@ -533,7 +536,8 @@ static void write_title(void)
         "A ring is one path, which starts at the dot, trimmed to the bag's count: one arc, or two where it runs past "
         "its start, and how long they are.",
         "An arrow rises with the coins, and has a head as soon as it is long enough for one.",
-        "A stack is one coin, an ellipse, repeated: once for every ten coins in the bag, and once for those left over.",
+        "A stack is one coin, an ellipse, repeated: once for every ten coins in the bag, and once for those left over. In "
+        "a fan each is turned against the one below.",
     };
     printf("<text x=\"%d\" y=\"%d\" font-size=\"18\" font-weight=\"bold\" fill=\"" INK "\">The bag panel of a coin "
            "sorter</text>\n",
@@ -549,8 +553,8 @@ static void write_foot(const Panel *panel)
     printf("<text x=\"%d\" y=\"%d\" fill=\"" INK "\">Size %d compared with size 1, %zu numbers: the commands, ranges, "
            "heads, orders, shapes of copies and opacities are the same;</text>\n",
            MARGIN, y, FACTOR, numbers_compared);
-    printf("<text x=\"%d\" y=\"%d\" fill=\"" INK "\">every coordinate, length, cut and shift is exactly %d times as "
-           "large.</text>\n",
+    printf("<text x=\"%d\" y=\"%d\" fill=\"" INK "\">every coordinate, length and cut, and every shift in an upright "
+           "stack, is exactly %d times as large.</text>\n",
            MARGIN, y + LINE, FACTOR);
     printf("<text x=\"%d\" y=\"%d\" fill=\"" INK "\">At either size the panel sets aside just what the lines fill: %zu "
            "bytes for a frame with a square mouth, %zu for one with a round mouth, %zu for a ring, %zu for a "

@@ -17,7 +17,7 @@ enum jengafir_refusal {
     JENGAFIR_TOO_MANY = 2,          /* too many vertices, rows, levels, commands or copies, or an offset over 4,096 */
     JENGAFIR_OUT_OF_RANGE = 3,      /* a number that is not finite, or over its limit */
     JENGAFIR_UNLISTED = 4,          /* a code, flag or mode that is not listed */
-    JENGAFIR_UNSUPPORTED = 5,       /* a polystar, or a repeater that rotates */
+    JENGAFIR_UNSUPPORTED = 5,       /* a polystar */
     JENGAFIR_BROKEN_NESTING = 6,    /* the first row is nested, or a row lies deeper than the row before it allows */
     JENGAFIR_NOT_MERGEABLE = 7,     /* no row merges the rows before it */
     JENGAFIR_TOO_SHORT = 8,         /* a path too short to be cut */
@@ -188,22 +188,25 @@ uint32_t jengafir_trim_lengths(float start, float end, float offset, uint8_t mod
                                size_t *range_count, uint32_t *whole);
 
 /* Of the two calls about a repeater: its eleven numbers are copies, offset, anchor x and y, position x and y, scale x
-   and y in per cent, rotation, and the opacities of the first and of the last copy. There are as many copies as the
-   ceiling of `copies` says, none where it is negative. The mode may be any. No pointer is null, and places that are
-   lent for writing overlap nothing else that is lent.
-   Refuses a repeater of more than 4,096 copies, or with an absolute offset over 4,096, with 2; a number that is not
-   finite, or over 1,048,576 in absolute value, with 3; and a rotation that is not zero with 5.
+   and y in per cent, rotation in degrees, and the opacities of the first and of the last copy. There are as many copies
+   as the ceiling of `copies` says, none where it is negative. The mode may be any. No pointer is null, and places that
+   are lent for writing overlap nothing else that is lent.
+   Refuses a repeater of more than 4,096 copies, or with an absolute offset over 4,096, with 2; and a number that is not
+   finite, or over 1,048,576 in absolute value, with 3.
    On acceptance the answer stands at the start of the buffer and the count says how many entries it has; places past it
    keep their content. On a refusal the count is 0 and the buffer keeps its content. */
 
 /* Puts down the copies in the order in which they are drawn: 0, 1, .. in mode 1, else the other way round.
-   Refuses 2, 3, 5 as above, then an order that does not fit with 11. */
+   Refuses 2, 3 as above, then an order that does not fit with 11. */
 uint32_t jengafir_copy_order(const float repeater[11], uint8_t mode, uint32_t *order, size_t order_len,
                              size_t *order_count);
 
 /* Puts down seven numbers for one copy: its matrix a, b, c, d, e, f, which sends (p, q) to
    (a p + c q + e, b p + d q + f), and its opacity.
-   Refuses 2, 3, 5 as above, then a copy that is not there with 9, numbers that are not finite with 10, and a buffer of
+   Each step turns around the anchor by the rotation, and the part of a step by its part of it, to the nearest sixteenth
+   of a degree, a half away from zero; where y points down, more degrees turn clockwise. The sine and the cosine of each
+   sixteenth are fixed to the last bit.
+   Refuses 2, 3 as above, then a copy that is not there with 9, numbers that are not finite with 10, and a buffer of
    fewer than seven places with 11. */
 uint32_t jengafir_copy_transform(const float repeater[11], uint8_t mode, size_t copy, float *matrix, size_t matrix_len,
                                  size_t *matrix_count);

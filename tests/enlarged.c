@@ -214,6 +214,7 @@ static void measure(const Drawing *small, const Drawing *large, int factor)
     }
 }
 
+/* A repeater without a rotation, for which alone the promise is given. */
 static void repeat(int factor)
 {
     static const float offsets[] = {-1.5f, 0, 2};

@@ -67,6 +67,13 @@ static void shifted(const char *call, const float *repeater, size_t copy, float 
     copied(call, repeater, copy, 9, JENGAFIR_ACCEPTED, numbers, 7);
 }
 
+/* Expects the numbers a, b, c and d of a copy that is turned, with no shift and opacity 1. */
+static void turned(const char *call, const float *repeater, size_t copy, float a, float b, float c, float d)
+{
+    const float numbers[] = {a, b, c, d, 0, 0, 1};
+    copied(call, repeater, copy, 9, JENGAFIR_ACCEPTED, numbers, 7);
+}
+
 static void refused(const char *call, const float *repeater, uint32_t refusal)
 {
     ordered(call, repeater, 1, COUNT(order), refusal, 0);
@@ -83,6 +90,15 @@ static const float *with(size_t place, float x)
     memcpy(changed, row, sizeof changed);
     changed[place] = x;
     return changed;
+}
+
+/* Five copies that turn by so many degrees and do nothing else, with an offset. */
+static const float *turning(float offset, float degrees)
+{
+    static float repeater[11];
+    const float numbers[] = {5, offset, 0, 0, 0, 0, 100, 100, degrees, 1, 1};
+    memcpy(repeater, numbers, sizeof repeater);
+    return repeater;
 }
 
 static void test_orders(void)
@@ -125,6 +141,62 @@ static void test_copies(void)
     copied("a burst before the buffer", growing, 100, 0, JENGAFIR_NOT_FINITE, NULL, 0);
 }
 
+static void test_turns(void)
+{
+    const float high = 0x1.bb67aep-1f; /* the f32 nearest to the sine of 60 degrees */
+
+    turned("90 degrees, copy 0", turning(0, 90), 0, 1, 0, 0, 1);
+    turned("90 degrees, copy 1", turning(0, 90), 1, 0, 1, -1, 0);
+    turned("90 degrees, copy 2", turning(0, 90), 2, -1, 0, -0.0f, -1);
+    turned("90 degrees, copy 4", turning(0, 90), 4, 1, -0.0f, 0, 1);
+    turned("180 degrees", turning(0, 180), 1, -1, 0, -0.0f, -1);
+    turned("30 degrees, copy 1", turning(0, 30), 1, 0.8660254f, 0.5f, -0.5f, 0.8660254f);
+    turned("30 degrees, a step back", turning(-1, 30), 0, high, -0.5f, 0.5f, high);
+    turned("-30 degrees", turning(0, -30), 1, high, -0.5f, 0.5f, high);
+    turned("half a step of 60 degrees", turning(0.5f, 60), 0, high, 0.5f, -0.5f, high);
+    turned("a turn and 30 degrees", turning(0, 390), 1, high, 0.5f, -0.5f, high);
+    turned("the most degrees, which come to 256", turning(0, 1048576), 1, -0x1.ef74cp-3f, -0x1.f0ca9ap-1f,
+           0x1.f0ca9ap-1f, -0x1.ef74cp-3f);
+    ordered("90 degrees, the order", turning(0, 90), 2, 5, JENGAFIR_ACCEPTED, 5);
+    copied("90 degrees, no such copy", turning(0, 90), 5, 9, JENGAFIR_NO_SUCH_COPY, NULL, 0);
+    copied("90 degrees, a buffer one short", turning(0, 90), 1, 6, JENGAFIR_BUFFER_TOO_SMALL, NULL, 0);
+}
+
+/* An angle is rounded to sixteenths of a degree, half away from zero, before whole turns are taken off. */
+static void test_rounded_angles(void)
+{
+    const float cosine = 0x1.ffffecp-1f, sine = 0x1.1df46p-10f; /* of one sixteenth */
+
+    turned("a whole turn", turning(0, 360), 3, 1, 0, 0, 1);
+    turned("a whole turn back", turning(-4, -360), 0, 1, 0, 0, 1);
+    turned("359.97 degrees", turning(0, 359.97f), 3, 1, 0, 0, 1);
+    turned("half a sixteenth", turning(0, 0x1p-5f), 1, cosine, sine, -sine, cosine);
+    turned("half a sixteenth, a step back", turning(-1, 0x1p-5f), 0, cosine, -sine, sine, cosine);
+    turned("half a step of a sixteenth", turning(0.5f, 0x1p-4f), 0, cosine, sine, -sine, cosine);
+    turned("less than half a sixteenth", turning(0, 0x1.fffffep-6f), 4, 1, 0, 0, 1);
+    turned("half a sixteenth less than a turn", turning(0, 359.96875f), 1, 1, 0, 0, 1);
+    turned("half a sixteenth more than a turn", turning(0, 360.03125f), 1, cosine, sine, -sine, cosine);
+}
+
+/* Turned about an anchor, after a move; and a scale acts on a point before the turn. */
+static void test_fans(void)
+{
+    static const float stack[] = {5, 0, 40, 120, 0, 0, 100, 100, 90, 1, 1};
+    static const float stack_back[] = {5, -1, 40, 120, 10, 0, 100, 100, 90, 1, 1};
+    static const float mirroring[] = {5, 0, 0, 0, 10, 0, -100, 200, 90, 1, 1};
+    static const float growing[] = {200, 0, 0, 0, 0, 0, 1048576, 100, 90, 1, 1};
+    static const float quarter[] = {0, 1, -1, 0, 160, 80, 1};
+    static const float half[] = {-1, 0, -0.0f, -1, 80, 240, 1};
+    static const float quarter_back[] = {0, -1, 1, 0, -90, 160, 1};
+    static const float mirrored[] = {-0.0f, -1, -2, 0, 10, 0, 1};
+
+    copied("a quarter about an anchor", stack, 1, 7, JENGAFIR_ACCEPTED, quarter, 7);
+    copied("two quarters about an anchor", stack, 2, 7, JENGAFIR_ACCEPTED, half, 7);
+    copied("a quarter back, and a move", stack_back, 0, 7, JENGAFIR_ACCEPTED, quarter_back, 7);
+    copied("a mirror before the turn", mirroring, 1, 7, JENGAFIR_ACCEPTED, mirrored, 7);
+    copied("a turned burst before the buffer", growing, 100, 0, JENGAFIR_NOT_FINITE, NULL, 0);
+}
+
 static void test_refusals(void)
 {
     refused("more than the most copies", with(COPIES, 4096.0005f), JENGAFIR_TOO_MANY);
@@ -136,7 +208,9 @@ static void test_refusals(void)
     refused("an offset that is no number", with(OFFSET, NAN), JENGAFIR_OUT_OF_RANGE);
     refused("an anchor past the limit", with(ANCHOR_Y, 1048576.125f), JENGAFIR_OUT_OF_RANGE);
     refused("an opacity that is no number", with(END, NAN), JENGAFIR_OUT_OF_RANGE);
-    refused("a rotation", with(ROTATION, 90), JENGAFIR_UNSUPPORTED);
+    refused("a rotation past the limit", with(ROTATION, 1048576.125f), JENGAFIR_OUT_OF_RANGE);
+    refused("a rotation past the limit the other way", with(ROTATION, -1048576.125f), JENGAFIR_OUT_OF_RANGE);
+    refused("an infinite rotation", with(ROTATION, INFINITY), JENGAFIR_OUT_OF_RANGE);
     refused("a rotation that is no number", with(ROTATION, NAN), JENGAFIR_OUT_OF_RANGE);
 }
 
@@ -144,6 +218,9 @@ int main(void)
 {
     test_orders();
     test_copies();
+    test_turns();
+    test_rounded_angles();
+    test_fans();
     test_refusals();
     if (wrong != 0) {
         printf("%d of %d wrong\n", wrong, compared);

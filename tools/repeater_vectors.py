@@ -2,55 +2,68 @@
 """Makes the test vectors of repeaters.
 
 It writes crates/vectors_repeater/stdin, one call a line, and crates/vectors_repeater/stdout, what
-each call answers. The expected values come from document 01's rules on exact numbers; the roundings
-are those of float_vectors.py, and no floating-point number is computed with here. The sample of the
-Rust's answers in oracle/samples follows them.
+each call answers. The expected values come from document 01's rules, and document 02's for turned
+copies, on exact numbers; the roundings are those of float_vectors.py, the sines those of
+sine_vectors.py, and no floating-point number is computed with here. The sample of the Rust's answers
+in oracle/samples follows them.
 
 A line of stdin is a word and numbers of 8 hexadecimal digits each, one blank before each number:
 
     order MODE PLACES X..
     copy MODE COPY PLACES X..
+    turn ROTATION..
 
 PLACES is the length of the buffer. The eleven patterns X are the copies, the offset, the anchor,
 the position and the scale of two numbers each, the rotation, the start opacity and the end opacity.
+Each ROTATION, of which a line has at most 64, stands for copy 1 of two copies that turn by it and do
+nothing else.
 
-In stdout each line of stdin is followed by two lines. The first is 'refused' with the refusal's
-number, or 'written' with the count. The second is 'places' with what all places of the buffer hold
-after the call. Before it each place is eeeeeeee for an order, and c29a8000, which is -77.25, for the
-numbers of a copy.
+In stdout each line of stdin is followed by its answer. For an order and a copy it has two lines. The
+first is 'refused' with the refusal's number, or 'written' with the count. The second is 'places' with
+what all places of the buffer hold after the call. Before it each place is eeeeeeee for an order, and
+c29a8000, which is -77.25, for the numbers of a copy. For turns it is a line of 'places' with the
+places of a, b, c and d after each call.
 
     python3 tools/repeater_vectors.py            write both files
     python3 tools/repeater_vectors.py --check    compare both files; exit 1 where one differs
 """
 
 from fractions import Fraction
+from functools import cache
 
 from draw_vectors import LIMIT_PATTERN, OLD_NUMBER, all_within, at_most, mul as mul_numbers, sub
 from float_vectors import (
-    A_NAN, INFINITE, INFINITY, LARGEST, NAN, ONE, SIGN, TINIEST, ZERO,
-    Random, absolute, add, around, both_signs, ceil, decode, div, encode, floor, less, maximum, mul_add, of, rounded,
-    signed, size_of,
+    A_NAN, INFINITE, INFINITY, LARGEST, NAN, ONE, SIGN, SMALLEST_NORMAL, TINIEST, ZERO,
+    Random, absolute, add, around, both_signs, ceil, decode, div, encode, floor, less, maximum, mul_add, of,
+    round_half_away, rounded, signed, size_of,
 )
+from sine_vectors import DIRECTIONS, TURN
 from trim_vectors import nearest
 from vector_files import keep
 
 OLD_PLACE = 0xEEEEEEEE
 
+# The most rotations of a line.
+MOST_TURNS = 64
+
 NOUGHT, UNIT, MINUS_UNIT = decode(ZERO), decode(ONE), decode(ONE | SIGN)
-HUNDRED = decode(of(100))
+HUNDRED, SIXTEEN = decode(of(100)), decode(of(16))
 MOST = decode(of(4096))
 EPSILON_PATTERN = of(Fraction(1, 2**23))
 EPSILON = decode(EPSILON_PATTERN)
 LEAST_SCALE = decode(rounded(Fraction(1, 10000)))
 
 
-# The rules of document 01. A matrix is its numbers a, b, c, d, e and f.
+# The rules of documents 01 and 02. A matrix is its numbers a, b, c, d, e and f. Few products are not asked for again, so
+# they are kept.
 
+@cache
 def mul(x, y):
     """x * y, rounded once. Past a burst a factor may be a NaN."""
     return NAN if NAN in (x, y) else mul_numbers(x, y)
 
 
+@cache
 def sum_of_products(*pairs, last=None):
     """Each product and each sum is rounded, from left to right; the last term is a number."""
     terms = [mul(x, y) for x, y in pairs] + ([] if last is None else [last])
@@ -87,6 +100,24 @@ def opposite(x):
     return (1 - x[0], x[1])
 
 
+def sixteenths(degrees):
+    """An angle in sixteenths of a degree, half away from zero, and then without its whole turns."""
+    return int(signed(round_half_away(mul(degrees, SIXTEEN)))) % TURN
+
+
+def pre_rotate(matrix, degrees):
+    """A zero angle, however it came about, leaves the matrix as it is."""
+    angle = sixteenths(degrees)
+    if angle == 0:
+        return matrix
+    a, b, c, d, e, f = matrix
+    cos, sin = (decode(pattern) for pattern in DIRECTIONS[angle])
+    minus = opposite(sin)
+    return (
+        sum_of_products((a, cos), (c, sin)), sum_of_products((b, cos), (d, sin)),
+        sum_of_products((a, minus), (c, cos)), sum_of_products((b, minus), (d, cos)), e, f)
+
+
 class Repeater:
     def __init__(self, patterns):
         self.numbers = [decode(pattern) for pattern in patterns]
@@ -98,9 +129,7 @@ class Repeater:
         """The number of the refusal that every call on it gives, or none."""
         if less(MOST, self.copies) or less(MOST, absolute(self.offset)):
             return 2
-        if not all_within(self.numbers):
-            return 3
-        return 5 if self.rotation[1] else None
+        return None if all_within(self.numbers) else 3
 
     def count(self):
         return int(signed(maximum(ceil(self.copies), NOUGHT)))
@@ -115,8 +144,8 @@ class Repeater:
         if inverse:
             scale = [div(UNIT, maximum(s, LEAST_SCALE)) for s in scale]
         matrix = pre_translate(IDENTITY, *(mul(mul(p, direction), percent) for p in self.position))
-        matrix = pre_scale(pre_translate(matrix, *self.anchor), *scale)
-        return pre_translate(matrix, *(opposite(x) for x in self.anchor))
+        matrix = pre_rotate(pre_translate(matrix, *self.anchor), mul(mul(self.rotation, direction), percent))
+        return pre_translate(pre_scale(matrix, *scale), *(opposite(x) for x in self.anchor))
 
     def iteration(self, iteration):
         magnitude = absolute(iteration)
@@ -208,10 +237,28 @@ def replaced(patterns, place, pattern):
     return patterns[:place] + (pattern,) + patterns[place + 1:]
 
 
+ROW = {"anchor": "0 0", "scale": "100 100", "opacity": "1 1"}
+STILL = {**ROW, "position": "0 0"}
+TWO_STILL = repeater(**STILL, copies="2")
+
+
+def turned_places(rotation):
+    """What the places of a, b, c and d hold after the call for copy 1 of two that turn."""
+    outcome = copy_outcome(Repeater(replaced(TWO_STILL, 8, rotation)), 1, 7)
+    return [OLD_NUMBER] * 4 if isinstance(outcome, int) else outcome[:4]
+
+
+def turns(rotations):
+    """The calls for these rotations, on as many lines as they need."""
+    for first in range(0, len(rotations), MOST_TURNS):
+        part = rotations[first:first + MOST_TURNS]
+        line = called("turn", *part)
+        yield line, line + called("places", *(place for rotation in part for place in turned_places(rotation)))
+
+
 # The vectors.
 
 MODES = (0, 1, 2, 3, 255)
-ROW = {"anchor": "0 0", "scale": "100 100", "opacity": "1 1"}
 
 
 def plates():
@@ -342,9 +389,10 @@ def limits():
 
 
 def orders_of_checks():
-    """The fault of the lower place counts: 2, 3, 5, 9, 10, 11."""
+    """The fault of the lower place counts: 2, 3, 9, 10, 11. A rotation is no fault up to its limit."""
     crowded = [{"copies": [INFINITY]}, {"offset": [INFINITY | SIGN]}, {"copies": "5000"}, {"offset": "-5000"}]
-    outside = [{"copies": [INFINITY | SIGN]}, {"copies": [A_NAN]}, {"anchor": [ZERO, A_NAN]}, {"rotation": [A_NAN]}]
+    outside = [{"copies": [INFINITY | SIGN]}, {"copies": [A_NAN]}, {"anchor": [ZERO, A_NAN]}]
+    outside += [{"rotation": [pattern]} for pattern in (A_NAN, INFINITY | SIGN, LIMIT_PATTERN + 1)]
     turned = [{"rotation": [pattern]} for pattern in both_signs([TINIEST, of(90)])]
     for fault in crowded:
         yield copy(repeater(**fault))
@@ -352,10 +400,86 @@ def orders_of_checks():
     for fault in outside:
         yield copy(repeater(**fault), 7)
         yield order(repeater(**{**turned[0], **fault}), places=0)
-    for fault in turned:
-        yield order(repeater(**fault))
-        yield copy(repeater(**fault), 3, places=0)
+    for turn in turned:
+        yield from (order(repeater(**turn), places=places) for places in (3, 2))
+        yield from (copy(repeater(**turn), index, places=0) for index in (2, 3))
     yield from (copy(repeater(rotation=zero), 1) for zero in ("0", "-0"))
+
+
+def fans():
+    """Copies that turn and do nothing else, and stacks that fan out about an anchor."""
+    for rotation in ("90", "30", "359.97"):
+        yield from (copy(repeater(**STILL, copies="5", rotation=rotation), index) for index in range(5))
+    for rotation in ("-90", "180", "45.03125"):
+        yield from (copy(repeater(**STILL, copies="5", rotation=rotation), index) for index in (2, 3))
+    for rotation in ("7.5", "-12", "90"):
+        for offset in ("0", "-2", "0.5"):
+            yield copy(repeater(scale="100 100", anchor="40 120", offset=offset, rotation=rotation), 2)
+    yield copy(repeater(**STILL, copies="4096", rotation="0.0625"), 400)
+    yield copy(repeater(**STILL, copies="4096", offset="-40.5", rotation="271"))
+
+
+def rounded_angles():
+    """Rotations at and beside the middle of two sixteenths, whole turns and the limit, each with its neighbours."""
+    middles = [1, 3, 5, 7, 9, 31, 33, 959, 2879, 2881, 5761, 11517, 11519, 11521, 23039, 23041, 2**23 - 1, 2**23 + 1]
+    middles += [32 * 300000 + 1, 32 * 524287 + 31]
+    whole = [90, 180, 270, 360, 720, 1080, 3600, 360 * 2912, 2**18, 2**19]
+    near = [pattern for value in [Fraction(k, 32) for k in middles] + whole for pattern in around(of(value))]
+    near += around(nearest("359.97")) + around(nearest("359.96")) + around(LIMIT_PATTERN)
+    tiny = [TINIEST, SMALLEST_NORMAL, EPSILON_PATTERN, *(of(Fraction(1, n)) for n in (1024, 64, 33554432))]
+    yield from turns(both_signs(near + tiny + [LARGEST, INFINITY]) + [A_NAN])
+
+
+def turned_steps():
+    """Whole steps, inverse ones and parts, with a scale that shows whether the turn comes before it."""
+    for rotation in ("90", "-30", "33.3"):
+        for scale in ("-100 100", "50 200"):
+            for offset in ("1", "-1", "0.5", "-2.25"):
+                yield copy(repeater(scale=scale, rotation=rotation, offset=offset))
+    # Half of an odd number of sixteenths, and what is beside it; a third of them.
+    for rotation in (Fraction(1, 16), Fraction(3, 16), Fraction(-45, 16), Fraction(5759, 16), Fraction(5761, 16)):
+        yield from (copy(repeater(**STILL, rotation=[pattern], offset="0.5")) for pattern in around(of(rotation)))
+        yield from (copy(repeater(**STILL, rotation=[of(rotation)], offset=offset)) for offset in ("-1.5", "0.33333334"))
+    # The part of a step is 2^-22 and the rotation as large as it may be: four sixteenths.
+    for offset in both_signs([of(1 + Fraction(1, 2**22)), of(Fraction(1, 2**22))]):
+        yield copy(repeater(**STILL, rotation=[LIMIT_PATTERN], offset=[offset]))
+
+
+def still_angles():
+    """Rotations that come to no angle: the matrix stays as it is, -0 and all."""
+    for rotation in (TINIEST, of(Fraction(1, 32)) - 1, *map(of, (360, 1080)), nearest("359.97")):
+        for pattern in (rotation, rotation | SIGN):
+            yield copy(repeater(rotation=[pattern], scale="-100 -0", position="-0 0", anchor="-0 -0", offset="1.5"))
+            yield copy(repeater(rotation=[pattern], offset="-2"))
+    # The whole step comes to no angle and its part to one; and the other way round.
+    yield from (copy(repeater(rotation="360", offset=offset)) for offset in ("1.25", "-1.25"))
+    yield from (copy(repeater(rotation="0.03125", offset=offset)) for offset in ("2.5", "-1.999"))
+
+
+def turned_zeros():
+    """Both zeros in the other parts, with quarters of a turn."""
+    for rotation in ("90", "180", "-90", "-180"):
+        for zero in ("0 0", "-0 -0", "0 -0"):
+            for offset in ("1", "-1"):
+                yield copy(repeater(rotation=rotation, anchor=zero, position=zero, scale="100 -100", offset=offset))
+        yield copy(repeater(rotation=rotation, scale="0 -0", offset="1.5"))
+
+
+def turned_bursts():
+    """Numbers that grow past the largest float while they turn: 10 comes after 9 and before 11."""
+    large = {**STILL, "copies": "20", "scale": "1048576 1048576"}
+    for rotation in ("90", "45", "-0.0625"):
+        yield from (copy(repeater(**large, rotation=rotation), index) for index in (9, 10, 12, 19, 20))
+    yield from (copy(repeater(**large, rotation="30"), index, places=6) for index in (9, 10, 20))
+    # The scale of one axis is turned into the other; the shift alone is too large; the inverse steps grow.
+    yield from (copy(repeater(**{**large, "scale": "1048576 100"}, rotation="45"), index) for index in (10, 11))
+    yield from (copy(repeater(**{**large, "anchor": "1048576 0"}, rotation="90"), index) for index in (8, 9))
+    yield from (copy(repeater(**{**large, "scale": "0 0"}, rotation="60", offset=offset)) for offset in ("-9", "-10"))
+
+
+def every_sixteenth():
+    """One turn by sixteenths of a degree, both ways."""
+    yield from turns(both_signs([of(Fraction(k, 16)) for k in range(TURN + 1)]))
 
 
 def hundredths(rng, low, high):
@@ -379,11 +503,29 @@ def random_copies(rng):
             opacity=[rng.pattern(-20, 2) for _ in range(2)]), rng.between(0, copies - 1))
 
 
+def random_turns(rng):
+    for _ in range(20):
+        copies = rng.between(1, 6)
+        yield copy(repeater(
+            copies=[of(copies)], offset=[hundredths(rng, -5, 5)], rotation=[hundredths(rng, -720, 720)],
+            anchor=[hundredths(rng, -200, 200) for _ in range(2)],
+            position=[hundredths(rng, -200, 200) for _ in range(2)],
+            scale=[hundredths(rng, -20, 250) for _ in range(2)]), rng.between(0, copies - 1))
+    for _ in range(10):
+        yield copy(repeater(
+            copies=[of(6)], offset=[rng.pattern(-12, 2)], rotation=[rng.pattern(-8, 19)],
+            anchor=[rng.pattern(-30, 19) for _ in range(2)], position=[rng.pattern(-30, 19) for _ in range(2)],
+            scale=[rng.pattern(0, 8) for _ in range(2)]), rng.between(0, 5))
+    yield from turns([rng.pattern(-8, 19) for _ in range(64)])
+
+
 def vectors():
     """Every call, as its line of stdin and its lines of stdout."""
     for calls in (
         plates(), counts(), offsets(), scales(), underflows(), zeros(), anchors(), bursts(), indices(), buffers(),
         limits(), orders_of_checks(), random_copies(Random(20240404)),
+        fans(), rounded_angles(), turned_steps(), still_angles(), turned_zeros(), turned_bursts(),
+        random_turns(Random(20240505)), every_sixteenth(),
     ):
         yield from calls
 

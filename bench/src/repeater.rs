@@ -1,4 +1,5 @@
-//! Times repeaters, through the C interface, against the Rust's own functions over their stand-ins.
+//! Times repeaters, through the C interface, against the Rust's own functions over their stand-ins, of which document 02's
+//! rotation is one.
 
 use crate::interface::{jengafir_copy_order, jengafir_copy_transform};
 use crate::timing::compare;
@@ -27,6 +28,16 @@ fn repeaters() -> Vec<[f32; 11]> {
         numbers
     };
     (0..REPEATERS).map(&mut any).collect()
+}
+
+/// The same, turned by 2 to 4 degrees a step.
+fn turned(repeaters: &[[f32; 11]]) -> Vec<[f32; 11]> {
+    let mut unit = unit_numbers();
+    let mut repeaters = repeaters.to_vec();
+    for numbers in &mut repeaters {
+        numbers[8] = 3.0 + unit();
+    }
+    repeaters
 }
 
 fn style(numbers: &[f32; 11], mode: u8) -> RepeaterStyle {
@@ -80,4 +91,5 @@ pub fn run() {
         compare(call, ("order", 1), &repeaters, ours, |r| their_order(r, mode));
     }
     compare("copy_transform, 4,000", ("call", 1), &repeaters, transform, their_transform);
+    compare("copy_transform, 4,000 turned", ("call", 1), &turned(&repeaters), transform, their_transform);
 }

@@ -1,4 +1,5 @@
-//! Compares repeaters: the Rust's own functions, under document 01's refusals, against ours.
+//! Compares repeaters: the Rust's own functions, under document 01's refusals, against ours. One run has no rotation, and is
+//! about the Rust alone. In a second one the copies are turned, by document 02's rotation put into the Rust.
 
 use crate::draw::check;
 use crate::interface::{jengafir_copy_order, jengafir_copy_transform};
@@ -12,18 +13,26 @@ const LIMIT: f32 = 1_048_576.0;
 /// An order for so many copies that are compared: it may have 4,096 entries.
 const ONE_ORDER_IN: usize = 16;
 
+/// Makes the eleven numbers of a repeater, and its mode.
+type Maker = fn(&mut Random) -> ([f32; 11], u8);
+
 pub fn compare(random: &mut Random, count: usize, report: &mut Report) {
+    compare_run(random, count, report, any_unturned, ["copy_order", "copy_transform"]);
+    // More than half of these calls are accepted, so that at least as many copies as the count are worked out.
+    compare_run(random, 2 * count, report, any_turned, ["copy_order, turned", "copy_transform, turned"]);
+}
+
+fn compare_run(random: &mut Random, count: usize, report: &mut Report, any: Maker, names: [&'static str; 2]) {
     let mut orders: Outcomes = [0; 13];
     let mut copies: Outcomes = [0; 13];
     for i in 0..count {
-        let (numbers, mode) = any_repeater(random);
+        let (numbers, mode) = any(random);
         if i % ONE_ORDER_IN == 0 {
             compare_order(random, report, &mut orders, &numbers, mode);
         }
         compare_copy(random, report, &mut copies, &numbers, mode);
     }
-    report.outcomes.push(("copy_order", orders));
-    report.outcomes.push(("copy_transform", copies));
+    report.outcomes.extend(names.into_iter().zip([orders, copies]));
 }
 
 // Repeaters.
@@ -86,6 +95,14 @@ fn any_scale(random: &mut Random) -> f32 {
     }
 }
 
+fn bring_into_range(numbers: &mut [f32; 11]) {
+    for x in numbers {
+        if !(x.abs() <= LIMIT) {
+            *x = 2.5;
+        }
+    }
+}
+
 /// The eleven numbers as C lends them, and the mode. Now and then one of them is of any kind, or the rotation is not zero.
 fn any_repeater(random: &mut Random) -> ([f32; 11], u8) {
     let mut numbers = [0.0; 11];
@@ -103,13 +120,48 @@ fn any_repeater(random: &mut Random) -> ([f32; 11], u8) {
         numbers[i] = if random.bits(2) == 0 { any_place(random) } else { random.bits(10) as f32 / 1024.0 };
     }
     if random.bits(1) == 0 {
-        for x in &mut numbers {
-            if !(x.abs() <= LIMIT) {
-                *x = 2.5;
-            }
-        }
+        bring_into_range(&mut numbers);
     }
     let mode = if random.bits(1) == 0 { 1 } else { random.bits(8) as u8 };
+    (numbers, mode)
+}
+
+/// The same without a rotation, unless that is to be refused.
+fn any_unturned(random: &mut Random) -> ([f32; 11], u8) {
+    let (mut numbers, mode) = any_repeater(random);
+    if numbers[8].abs() <= LIMIT {
+        numbers[8] *= 0.0;
+    }
+    (numbers, mode)
+}
+
+/// Degrees: sixteenths, the middles between them, whole turns and parts of one, each at times with what is beside it;
+/// any, huge and tiny ones.
+fn any_rotation(random: &mut Random) -> f32 {
+    let beside = random.bits(1) == 1;
+    let exact = match random.bits(3) {
+        0 => return oddity(random),
+        1 => return random.between(-72_000, 72_000) as f32 / 100.0,
+        2 => return random.with_exponent(-30, -4),
+        3 => random.with_exponent(-5, 19),
+        4 | 5 => random.between(-5_760, 5_760) as f32 / 16.0,
+        6 => (2 * random.between(-5_800, 5_800) + 1) as f32 / 32.0,
+        _ => 90.0 * random.between(-40, 40) as f32,
+    };
+    if beside { random.nudged(exact) } else { exact }
+}
+
+/// The same with a rotation, and mostly no other number that is refused. At times the offset is one by quarters, so that the
+/// middle of two sixteenths is met by parts of a step as well.
+fn any_turned(random: &mut Random) -> ([f32; 11], u8) {
+    let (mut numbers, mode) = any_repeater(random);
+    if random.bits(2) != 0 {
+        bring_into_range(&mut numbers);
+    }
+    numbers[8] = any_rotation(random);
+    if random.bits(2) == 0 {
+        numbers[1] = random.between(-40, 40) as f32 / 4.0;
+    }
     (numbers, mode)
 }
 
@@ -128,11 +180,10 @@ fn style(numbers: &[f32; 11], mode: u8) -> RepeaterStyle {
     }
 }
 
-/// The checks in document 01's order: 2, 3, 5.
+/// The checks in document 01's order: 2, 3. By document 02 a rotation is none of them.
 fn sound(numbers: &[f32; 11]) -> Result<(), u32> {
     check(!(numbers[0].ceil() > MOST || numbers[1].abs() > MOST), 2)?;
-    check(numbers.iter().all(|x| x.abs() <= LIMIT), 3)?;
-    check(numbers[8] == 0.0, 5)
+    check(numbers.iter().all(|x| x.abs() <= LIMIT), 3)
 }
 
 fn count_of(numbers: &[f32; 11]) -> usize {
@@ -240,12 +291,18 @@ const SAMPLED_ORDERS: usize = 20;
 const SAMPLED_ENTRIES: usize = 16;
 const SAMPLED_COPIES: usize = 60;
 
+fn is_turned(numbers: &[f32; 11]) -> bool {
+    numbers[8] != 0.0
+}
+
+/// Only what is not turned is sampled: how the Rust rotates is not its own word here.
 pub fn sample(random: &mut Random) -> Vec<Case> {
     let mut cases = Vec::new();
     while cases.len() < SAMPLED_ORDERS {
         let (numbers, mode) = any_repeater(random);
         let more = random.bits(1) as usize;
-        if let Some(order) = order_answer(&numbers, mode).ok().filter(|order| order.len() <= SAMPLED_ENTRIES) {
+        let order = order_answer(&numbers, mode).ok().filter(|order| order.len() <= SAMPLED_ENTRIES);
+        if let Some(order) = order.filter(|_| !is_turned(&numbers)) {
             cases.push(case("order", &[mode as u32], &numbers, &order, more, 0xeeee_eeee));
         }
     }
@@ -253,7 +310,8 @@ pub fn sample(random: &mut Random) -> Vec<Case> {
         let (numbers, mode) = any_repeater(random);
         let more = random.bits(1) as usize;
         let copy = any_copy(random, count_of(&numbers));
-        if let Ok(answer) = copy_answer(&numbers, mode, copy) {
+        let answer = copy_answer(&numbers, mode, copy).ok();
+        if let Some(answer) = answer.filter(|_| !is_turned(&numbers)) {
             cases.push(case("copy", &[mode as u32, copy as u32], &numbers, &answer, more, OLD_NUMBER.to_bits()));
         }
     }

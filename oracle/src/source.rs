@@ -1,8 +1,9 @@
 //! The Rust's own functions for drawing, merging, measuring, trimming and repeating, cut by name out of its text, over stand-ins as document 01 has them.
 //! Of an ellipse the Rust's text has the box, and hands it to a function whose body is in no file: its walk is a reading of
-//! document 02.
+//! document 02. So is a rotation, which the Rust hands to another library.
 
 mod root;
+mod sine;
 
 /// What a builder hands over: the codes of the commands, and the numbers of all in one list.
 #[derive(Clone, Default)]
@@ -211,10 +212,15 @@ impl PixmapTransform {
         PixmapTransform([a * x, b * x, c * y, d * y, e, f])
     }
 
-    /// Only a rotation of zero is asked for here, which leaves the matrix as it is.
-    fn pre_rotate(self, angle: f32) -> PixmapTransform {
-        assert!(angle == 0.0);
-        self
+    /// The rotation by document 02's text, in degrees. An angle that comes to zero leaves the matrix as it is.
+    fn pre_rotate(self, degrees: f32) -> PixmapTransform {
+        let angle = sine::sixteenths(degrees);
+        if angle == 0 {
+            return self;
+        }
+        let (cos, sin) = (sine::cosine(angle), sine::sine(angle));
+        let [a, b, c, d, e, f] = self.0;
+        PixmapTransform([a * cos + c * sin, b * cos + d * sin, a * -sin + c * cos, b * -sin + d * cos, e, f])
     }
 }
 

@@ -4,7 +4,7 @@ use mathlib.Core.List.{List, [], _∷_}
 use Prim.Native.Nat.{ℕ}
 use lib.Ieee.{Float, nan, binary32, lt, le, eq, ofBits, ofFields}
 use Rattle.ieee.specs.Limit.{allWithin}
-use Rattle.command.specs.declared.Refusal.the-variants.{TooMany, OutOfRange, Unsupported, NoSuchCopy}
+use Rattle.command.specs.declared.Refusal.the-variants.{TooMany, OutOfRange, NoSuchCopy}
 use Rattle.command.specs.Outcomes.{refused, accepted}
 use Rattle.repeater.specs.Repeater.{copyCount}
 use Rattle.copies.specs.Order.{rising, falling, orderOf, copyOrder}
@@ -32,7 +32,7 @@ none : orderAnswer (repeaterOf (numbers (f 0xbf80_0000) (f 0) (f 0)) 1) ≡ acce
 unfolding orderAnswer repeaterChecks hasTooMany copyOrder copyCount orderOf rising falling allWithin lt le eq ofBits ofFields
 none = refl
 
--- an infinity meets 2 before 3, copies of minus infinity are 3, and a rotation is 5 after that
+-- an infinity meets 2 before 3, copies of minus infinity are 3, and a rotation is refused only past the limit
 infinite : orderAnswer (repeaterOf (numbers (f 0x7f80_0000) nan (f 0)) 1) ≡ refused TooMany
 unfolding orderAnswer repeaterChecks hasTooMany lt le ofBits ofFields
 infinite = refl
@@ -41,9 +41,13 @@ infinite-below : orderAnswer (repeaterOf (numbers (f 0xff80_0000) (f 0) (f 0x3f8
 unfolding orderAnswer repeaterChecks hasTooMany allWithin lt le ofBits ofFields
 infinite-below = refl
 
-turned : transformAnswer (repeaterOf (numbers (f 0x3f80_0000) (f 0) (f 0x3f80_0000)) 1) 7 ≡ refused Unsupported
-unfolding transformAnswer repeaterChecks hasTooMany allWithin lt le eq ofBits ofFields
+turned : orderAnswer (repeaterOf (numbers (f 0x3f80_0000) (f 0) (f 0x4980_0000)) 1) ≡ accepted (0 ∷ [])
+unfolding orderAnswer repeaterChecks hasTooMany copyOrder copyCount orderOf rising falling allWithin lt le eq ofBits ofFields
 turned = refl
+
+turned-too-far : transformAnswer (repeaterOf (numbers (f 0x3f80_0000) (f 0) (f 0xc980_0001)) 1) 7 ≡ refused OutOfRange
+unfolding transformAnswer repeaterChecks hasTooMany allWithin lt le eq ofBits ofFields
+turned-too-far = refl
 
 -- a copy index at the count is 9
 missing : transformAnswer (repeaterOf (numbers (f 0x4020_0000) (f 0) (f 0)) 1) 3 ≡ refused NoSuchCopy

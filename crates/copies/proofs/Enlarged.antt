@@ -7,22 +7,21 @@ use Prim.Native.Nat.{ℕ, _+_, _^_, _≤_, _<_}
 use native.Mathlib.Nat.{le-refl}
 use native.Mathlib.Omega.{arith}
 use lib.Dec.{ltb, lit≤, lit<}
-use lib.Ieee.{Float, lt, eq, ofBits}
+use lib.Ieee.{Float, lt, ofBits}
 use lib.Ieee.Bits.{is-true}
 use lib.Ieee.Exact.{HasValue}
 use lib.Ieee.Scale.{finite}
 use borrow.Author.Tests.{ltb-true, not-false}
-use Rattle.ieee.specs.Literal.{zero32}
 use Rattle.ieee.specs.Sign.{abs}
 use Rattle.ieee.specs.Limit.{within, allWithin}
 use Rattle.ieee.specs.Grid.{scale, On, Twin}
 use Rattle.ieee.proofs.Bounds.{on-bounded, bounded-finite}
 use Rattle.ieee.proofs.Grid.{weaken, scale-on}
 use Rattle.ieee.proofs.Limits as Limits
-use Rattle.command.specs.declared.Refusal.the-variants.{TooMany, OutOfRange, Unsupported, NoSuchCopy, NotFinite}
+use Rattle.command.specs.declared.Refusal.the-variants.{TooMany, OutOfRange, NoSuchCopy, NotFinite}
 use Rattle.command.specs.Outcomes.{Outcome, accepted, Check, _gives_, checked, AllPass}
 use Rattle.command.proofs.Outcomes.{checks-relate}
-use Rattle.repeater.specs.declared.Matrix.{Matrix}
+use Rattle.matrix.specs.declared.Matrix.{Matrix}
 use Rattle.repeater.specs.declared.RepeaterStyle.{RepeaterStyle}
 use Rattle.repeater.specs.Repeater.{mostCopies, mostOffset, copyCount, copyTransform, copyOpacity}
 use Rattle.repeater.proofs.Enlarged.{RepeaterTwin, Moved, copy-moved, count-same, opacity-same}
@@ -100,7 +99,7 @@ module _ {k : ℕ} (K : k ≤ 6) where
     unfolding repeaterChecks hasTooMany
     checks-same =
         λ i. ((lt mostCopies (R .copies-same i) || lt mostOffset (abs (R .offset-same i))) gives TooMany)
-        ∷ (not (numbers-alike i) gives OutOfRange) ∷ (not (eq (turn-same i) zero32) gives Unsupported) ∷ []
+        ∷ (not (numbers-alike i) gives OutOfRange) ∷ []
 
     pub order-same : r' .mode ≡ r .mode → orderAnswer r' ≡ orderAnswer r
     unfolding orderAnswer copyOrder

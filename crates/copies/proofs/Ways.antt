@@ -4,7 +4,7 @@ use mathlib.Core.Path.{_≡_, refl, sym, ap, _∙_, subst}
 use mathlib.Core.Bool.{Bool, true, false, cond, not, _&&_, _||_, true≢false, and-eq-true-iff}
 use mathlib.Core.List.{List, [], _∷_}
 use Prim.Native.Nat.{ℕ, zero, suc, _+_, _-_, _*_, _^_, _≤_, _<_, zero-le}
-use native.Mathlib.Nat.{sub-zero, mul-one, le-trans}
+use native.Mathlib.Nat.{sub-zero, mul-one, le-trans, le-of-suc-le-suc, not-suc-le-zero}
 use native.Mathlib.Numerals.{add-one}
 use native.Mathlib.Omega.{arith}
 use lib.Dec.{T, eqb, lit≤, lit<}
@@ -16,7 +16,7 @@ use lib.Ieee.Scale.{finite}
 use lib.ListN.{length, getD, drop, set, length-set, drop-of-length-le}
 use lib.Seq.{sets, length-sets, drop-cons}
 use borrow.Author.Tests.{eq-eqb, ne-eqb, lt-ltb, le-ltb, le-leb, lt-leb, not-false}
-use Rattle.ieee.specs.Literal.{zero32}
+use Rattle.ieee.specs.Literal.{numberLimit}
 use Rattle.ieee.specs.Sign.{abs, isNumber}
 use Rattle.ieee.specs.Limit.{within, allWithin, Bounded}
 use Rattle.ieee.specs.Whole.{wholeUp}
@@ -25,12 +25,12 @@ use Rattle.ieee.proofs.Order.{le-number-l, not-lt→le}
 use Rattle.ieee.proofs.Whole.{up-mono}
 use Rattle.count.specs.Count.{countUp, countLimit}
 use Rattle.command.specs.declared.Refusal.{Refusal}
-use Rattle.command.specs.declared.Refusal.the-variants.{TooMany, OutOfRange, Unsupported, NoSuchCopy, NotFinite, BufferTooSmall}
+use Rattle.command.specs.declared.Refusal.the-variants.{TooMany, OutOfRange, NoSuchCopy, NotFinite, BufferTooSmall}
 use Rattle.command.specs.Refusals.{refusalNumber}
 use Rattle.command.specs.Outcomes.{Outcome, refused, accepted, _gives_, checked, AllPass}
 use Rattle.command.specs.Buffers.{fitted, inBuffer, Filled}
 use Rattle.command.proofs.Buffers.{sets-append, fitted-accepted, fitted-refused, unfilled, filled}
-use Rattle.repeater.specs.declared.Matrix.{Matrix}
+use Rattle.matrix.specs.declared.Matrix.{Matrix}
 use Rattle.repeater.specs.declared.RepeaterStyle.{RepeaterStyle}
 use Rattle.repeater.specs.Repeater.{mostCopies, mostOffset, copyCount, copyTransform, copyOpacity}
 use Rattle.command.specs.declared.Verdict.{Verdict}
@@ -63,16 +63,11 @@ module _ (r : RepeaterStyle) where
       unfolding repeaterChecks
       verdict-beyond t = rw (sym x-is ∙ few, sym y-is ∙ t)
 
-      module _ (inside : y ≡ true) where
-        pub verdict-passed : eq (r .rotation) zero32 ≡ true → verdictOf Passed ≡ checked (repeaterChecks r) (accepted tt)
-        unfolding repeaterChecks
-        verdict-passed t = rw (sym x-is ∙ few, sym y-is ∙ inside, t)
+      pub verdict-passed : y ≡ true → verdictOf Passed ≡ checked (repeaterChecks r) (accepted tt)
+      unfolding repeaterChecks
+      verdict-passed t = rw (sym x-is ∙ few, sym y-is ∙ t)
 
-        pub verdict-turned : eq (r .rotation) zero32 ≡ false → verdictOf (Refused Unsupported) ≡ checked (repeaterChecks r) (accepted tt)
-        unfolding repeaterChecks
-        verdict-turned t = rw (sym x-is ∙ few, sym y-is ∙ inside, t)
-
-pub ruleset verdicts = (many-copies, many-offset, verdict-many, verdict-beyond, verdict-passed, verdict-turned)
+pub ruleset verdicts = (many-copies, many-offset, verdict-many, verdict-beyond, verdict-passed)
 
 -- ---- put_rising, put_falling
 -- the rest, written on the list as it is, gives the whole on the list as it was
@@ -278,6 +273,13 @@ few (fin false m d) h l =
     subst (λ (k : ℕ). wholeUp (m * up d) (down d) ≤ k) whole-most
     (up-mono (m * up d) (down d) 4096 1 (down-pos d) (lit< tt) (subst (λ (k : ℕ). k ≤ 4096 * down d) (sym (mul-one (m * up d))) b))
 
+-- each number of a list that is within the limit is
+within-at : (limit : Float) (xs : List Float) → allWithin limit xs ≡ true → (i : ℕ) → i < length xs → within limit (getD xs i nan) ≡ true
+unfolding allWithin
+within-at limit [] h i l = absurd (not-suc-le-zero l)
+within-at limit (x ∷ xs) h zero l = and-eq-true-iff (within limit x) (allWithin limit xs) .0 h .0
+within-at limit (x ∷ xs) h (suc i) l = within-at limit xs (and-eq-true-iff (within limit x) (allWithin limit xs) .0 h .1) i (le-of-suc-le-suc l)
+
 module _ (r : RepeaterStyle) (pass : AllPass (repeaterChecks r)) where
   not-many : (lt mostCopies (r .copies) ≡ false) × (lt mostOffset (abs (r .offset)) ≡ false)
   unfolding repeaterChecks hasTooMany
@@ -292,12 +294,13 @@ module _ (r : RepeaterStyle) (pass : AllPass (repeaterChecks r)) where
   numbers-within = search not-false
 
   pub copies-within : within countLimit (r .copies) ≡ true
-  unfolding allWithin
-  copies-within = and-eq-true-iff (within repeaterLimit (r .copies)) _ .0 numbers-within .0
+  copies-within = within-at repeaterLimit (repeaterNumbers r) numbers-within 0 (lit< tt)
 
   offset-limit : within repeaterLimit (r .offset) ≡ true
-  unfolding allWithin
-  offset-limit = and-eq-true-iff (within repeaterLimit (r .offset)) _ .0 (and-eq-true-iff (within repeaterLimit (r .copies)) _ .0 numbers-within .1) .0
+  offset-limit = within-at repeaterLimit (repeaterNumbers r) numbers-within 1 (lit< tt)
+
+  pub rotation-within : within numberLimit (r .rotation) ≡ true
+  rotation-within = within-at repeaterLimit (repeaterNumbers r) numbers-within 8 (lit< tt)
 
   pub offset-within : within mostOffset (r .offset) ≡ true
   unfolding ofBits ofFields
@@ -384,7 +387,7 @@ module _ (r : RepeaterStyle) (pass : AllPass (repeaterChecks r)) (n : ℕ) (n-is
     unfolding copyAnswer
     copy-told m o m-is o-is number count l l' F = rw (lt-ltb copy (copyCount r) (subst (λ (k : ℕ). copy < k) n-is h), ← m-is, ← o-is) F
 
-pub ruleset sounds = (copies-within, offset-within, copy-missing, copy-few, copy-small, copy-told)
+pub ruleset sounds = (copies-within, offset-within, rotation-within, copy-missing, copy-few, copy-small, copy-told)
 
 -- ---- callers that tell the answer in a number and a count
 module _ (r r' : RepeaterStyle) (e : r ≡ r') (w : Written) (number count : ℕ) (number-is : number ≡ writtenNumber w) (count-is : count ≡ writtenCount w) where

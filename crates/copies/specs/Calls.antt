@@ -3,20 +3,20 @@ use Prim.Native.Nat.{ℕ}
 use mathlib.Core.Bool.{Bool, true, not, _&&_, _||_}
 use mathlib.Core.List.{List, [], _∷_}
 use lib.Dec.{ltb}
-use lib.Ieee.{Float, nan, lt, eq}
+use lib.Ieee.{Float, nan, lt}
 use lib.Ieee.Scale.{finite}
 use lib.ListN.{getD}
-use Rattle.ieee.specs.Literal.{zero32, numberLimit}
+use Rattle.ieee.specs.Literal.{numberLimit}
 use Rattle.ieee.specs.Sign.{abs}
 use Rattle.ieee.specs.Limit.{allWithin}
-use Rattle.command.specs.declared.Refusal.the-variants.{TooMany, OutOfRange, Unsupported, NoSuchCopy, NotFinite}
+use Rattle.command.specs.declared.Refusal.the-variants.{TooMany, OutOfRange, NoSuchCopy, NotFinite}
 use Rattle.command.specs.Outcomes.{Outcome, accepted, Check, _gives_, checked}
-use Rattle.repeater.specs.declared.Matrix.{Matrix}
+use Rattle.matrix.specs.declared.Matrix.{Matrix}
 use Rattle.repeater.specs.declared.RepeaterStyle.{RepeaterStyle}
 use Rattle.repeater.specs.Repeater.{mostCopies, mostOffset, copyCount, copyTransform, copyOpacity}
 use Rattle.copies.specs.Order.{copyOrder}
 
--- the eleven numbers that C lends: copies, offset, anchor, position, scale, rotation, start and end opacity
+-- the eleven numbers that C lends: copies, offset, anchor, position, scale in per cent, rotation in degrees, start and end opacity
 abbrev pub repeaterOf : List Float → ℕ → RepeaterStyle
 repeaterOf v mode = record {
   copies = getD v 0 nan;
@@ -44,13 +44,9 @@ hasTooMany r = lt mostCopies (r .copies) || lt mostOffset (abs (r .offset))
 abbrev pub repeaterLimit : Float
 repeaterLimit = numberLimit
 
--- the checks 2, 3, and 5 for a rotation that is not zero; the mode may be any
+-- the checks 2 and 3; the mode may be any, and a rotation is a number like the others
 unfoldable pub repeaterChecks : RepeaterStyle → List Check
-repeaterChecks r =
-    (hasTooMany r gives TooMany)
-    ∷ (not (allWithin repeaterLimit (repeaterNumbers r)) gives OutOfRange)
-    ∷ (not (eq (r .rotation) zero32) gives Unsupported)
-    ∷ []
+repeaterChecks r = (hasTooMany r gives TooMany) ∷ (not (allWithin repeaterLimit (repeaterNumbers r)) gives OutOfRange) ∷ []
 
 -- the copy order has no 9 and no 10
 unfoldable pub orderAnswer : RepeaterStyle → Outcome (List ℕ)

@@ -1,8 +1,8 @@
 // A repeater answered: the order of its copies, and the numbers of one of them.
 use command::Refusal;
 use command::Verdict;
+use matrix::Matrix;
 use point::Point;
-use repeater::Matrix;
 use repeater::RepeaterStyle;
 ghost use mathlib.Core.Path.{_≡_};
 ghost use mathlib.Core.Bool.{not};
@@ -107,11 +107,7 @@ pub fn check_repeater(repeater: RepeaterStyle) -> Verdict
         return Verdict::Refused(Refusal::TooMany);
     }
     if is_within(repeater) {
-        if repeater.rotation == 0.0 {
-            Verdict::Passed
-        } else {
-            Verdict::Refused(Refusal::Unsupported)
-        }
+        Verdict::Passed
     } else {
         Verdict::Refused(Refusal::OutOfRange)
     }

@@ -8,7 +8,7 @@ use mathlib.Core.Bool.{Bool, true, false, _&&_}
 use mathlib.Core.List.{List, [], _∷_, map}
 use lib.Dec.{T}
 use lib.IntN.{pos}
-use lib.Ieee.{Float, nan, fin, binary32, fits, add, sub, mul, div, lt, le, neg, sum, round, units, size, span, climb, odd, ofInt, ofBits, ofFields}
+use lib.Ieee.{Float, nan, fin, binary32, fits, add, sub, mul, div, lt, le, eq, neg, sum, round, units, size, span, climb, odd, ofInt, ofBits, ofFields}
 use lib.Ieee.Bits.{is-true}
 use lib.Ieee.Fits.{and-l, and-r}
 use lib.ListN.{length, getD}
@@ -42,7 +42,8 @@ use Rattle.trim.specs.Trim.{offsetOf, placedAt, snapped, near, nearBoth, isWhol
 use Rattle.cut.specs.Cuts.{partOf}
 use Rattle.cut.specs.Calls.{isFiniteTrim, isTrimMode, cutMeasured, trimLengths}
 use Rattle.cut.specs.Answers.{lengthsAnswer, toldNumbers}
-use Rattle.repeater.specs.Matrix.{concat, preTranslate, preScale}
+use Rattle.angle.specs.Sixteenths.{sixteenthsOf, reduced, turnOf}
+use Rattle.matrix.specs.Matrix.{concat, preTranslate, preScale, preRotate}
 use Rattle.repeater.specs.Repeater as repeater
 use Rattle.copies.specs.Calls.{hasTooMany, repeaterChecks, copyNumbers, allFinite, copyAnswer, transformAnswer}
 use Rattle.enlargement.specs.Plates.{Lent, Plate, OnGrid, GridAt, of-vertices, PlateOnGrid, LengthAsked, enlarge}
@@ -136,7 +137,7 @@ unfolding drawPath bezierSegment sub ofBits le
 triangle-drawn = refl
 
 pub example-on-grid : PlateOnGrid plate
-unfolding ofBits fits
+unfolding ofBits eq fits
 example-on-grid = record {
   vertices = all-on-grid _ triangle tt;
   row = all-on-grid _ rectangles tt;
@@ -147,6 +148,7 @@ example-on-grid = record {
   numbers-are = refl;
   scale-x = refl;
   scale-y = refl;
+  no-rotation = refl;
   position-x = on-grid ten tt;
   position-y = on-grid zero32 tt;
   anchor-x = on-grid one32 tt;
@@ -252,15 +254,15 @@ rows-joined = refl
 
 -- the last copy is shifted by 20, and by 80
 shift-20 : transformAnswer (plate .repeater) 2 ≡ accepted (one32 ∷ zero32 ∷ zero32 ∷ one32 ∷ ofBits binary32 0x41a0_0000 ∷ zero32 ∷ zero32 ∷ [])
-unfolding ofBits allWithin lt le ofInt add sub mul div fma concat preTranslate preScale
-    repeater.copyCount repeater.stepScale repeater.stepShift repeater.stepMatrix repeater.stepTransform repeater.steps
+unfolding ofBits allWithin lt le ofInt add sub mul div fma concat preTranslate preScale preRotate sixteenthsOf reduced turnOf
+    repeater.copyCount repeater.stepScale repeater.stepPart repeater.stepMatrix repeater.stepTransform repeater.steps
     repeater.iterationTransform repeater.copyTransform repeater.opacityOf repeater.copyOpacity
     hasTooMany repeaterChecks copyNumbers allFinite copyAnswer transformAnswer
 shift-20 = refl
 
 shift-80 : transformAnswer (larger .repeater) 2 ≡ accepted (one32 ∷ zero32 ∷ zero32 ∷ one32 ∷ ofBits binary32 0x42a0_0000 ∷ zero32 ∷ zero32 ∷ [])
-unfolding enlarge ofBits allWithin lt le ofInt add sub mul div fma concat preTranslate preScale
-    repeater.copyCount repeater.stepScale repeater.stepShift repeater.stepMatrix repeater.stepTransform repeater.steps
+unfolding enlarge ofBits allWithin lt le ofInt add sub mul div fma concat preTranslate preScale preRotate sixteenthsOf reduced turnOf
+    repeater.copyCount repeater.stepScale repeater.stepPart repeater.stepMatrix repeater.stepTransform repeater.steps
     repeater.iterationTransform repeater.copyTransform repeater.opacityOf repeater.copyOpacity
     hasTooMany repeaterChecks copyNumbers allFinite copyAnswer transformAnswer
 shift-80 = refl

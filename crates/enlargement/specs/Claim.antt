@@ -13,7 +13,7 @@
 --   ranges                      the same
 --   cut lengths                 the same refusal, or the same ranges and every cut length multiplied.
 --                               Where the smaller path is too short, the larger is too short or accepted.
---   copy order                  the same
+--   copy order                  the same, of a repeater without rotation, as for the copy transform
 --   copy transform              the same refusal, or the same a, b, c, d and opacity, and the shift e, f multiplied
 --
 -- 'Multiplied' is `scale k`: the float whose value is exactly 2 ^ k times as large, a zero keeping its sign (crates/ieee/specs/Grid.antt); `products`

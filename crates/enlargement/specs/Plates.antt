@@ -4,10 +4,10 @@ use mathlib.Core.Path.{_≡_}
 use mathlib.Core.Bool.{true, false}
 use mathlib.Core.List.{List, [], map}
 use lib.IntN.{pos}
-use lib.Ieee.{Float, nan, fin, binary32, fits, mul}
+use lib.Ieee.{Float, nan, fin, binary32, fits, mul, eq}
 use lib.Ieee.Scale.{finite}
 use lib.ListN.{length, getD}
-use Rattle.ieee.specs.Literal.{hundred32}
+use Rattle.ieee.specs.Literal.{zero32, hundred32}
 use Rattle.ieee.specs.Grid.{On}
 use Rattle.command.specs.declared.PathCommand.{PathCommand}
 use Rattle.command.specs.Commands.{codesOf, numbersOf}
@@ -81,8 +81,8 @@ pub data Made : List PathCommand → Type 0 where
   of-merge : (rows : List ℕ) (n : ℕ) (items : List Float) (cs : List PathCommand) → GridAt (OfMerge rows n) items → drawMerge rows n items ≡ accepted cs → Made cs
 
 -- The conditions of the third demand: every number that is read as a coordinate is on the grid, the command list is made of such, and the repeater
--- scales by 100. That the repeater has no rotation is not asked: one that has is refused alike. Nothing is asked of numbers that are not read, nor of
--- all else.
+-- scales by 100 and has no rotation, that is one of +0 or -0: of turned copies nothing is claimed. Nothing is asked of numbers that are not read, nor
+-- of all else.
 pub record PlateOnGrid (p : Plate) : Type 0 where
   pub vertices : GridAt (OfVertices (p .lent .count)) (p .vertices)
   pub row : GridAt (OfRow (itemRow (p .lent .row) 0)) (p .items)
@@ -93,6 +93,7 @@ pub record PlateOnGrid (p : Plate) : Type 0 where
   pub numbers-are : p .numbers ≡ numbersOf commands
   pub scale-x : p .repeater .scale .x ≡ hundred32
   pub scale-y : p .repeater .scale .y ≡ hundred32
+  pub no-rotation : eq (p .repeater .rotation) zero32 ≡ true
   pub position-x : OnGrid (p .repeater .position .x)
   pub position-y : OnGrid (p .repeater .position .y)
   pub anchor-x : OnGrid (p .repeater .anchor .x)

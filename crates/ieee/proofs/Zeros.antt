@@ -1,6 +1,6 @@
 -- Zeros: rounded, and added to and multiplied with finite numbers that have a clear sign; and what the tests for such numbers say. Assumes nothing.
 use mathlib.Core.Path.{_≡_, refl, sym, ap, _∙_, subst}
-use mathlib.Core.Bool.{Bool, true, false, cond}
+use mathlib.Core.Bool.{Bool, true, false, cond, false≢true}
 use Prim.Native.Nat.{ℕ, zero, suc, _-_, _*_, _<_}
 use native.Mathlib.Nat.{zero-lt-suc, add-zero, zero-add, sub-zero, zero-mul, mul-zero, mul-pos}
 use native.Mathlib.Omega.{arith}
@@ -9,7 +9,7 @@ use lib.Dec.{T, eqb, eqb→eq, ltb}
 use lib.IntN.{pos}
 use lib.Ieee.{Float, nan, inf, fin, Format, up, down, unlike, fits, round, sum, add, mul, lt, eq}
 use lib.Ieee.Exact.{HasValue}
-use lib.Ieee.Fits.{up-pos, and-l}
+use lib.Ieee.Fits.{up-pos, down-pos, and-l}
 use lib.Ieee.Positive.{num, den, den-pos}
 use lib.Ieee.Scale.{finite, grid, round-val, round-under}
 use Rattle.ieee.specs.Literal.{zero32}
@@ -38,6 +38,11 @@ abbrev pub Plus : Float → Type 0
 Plus nan = ⊥
 Plus (inf s) = ⊥
 Plus (fin s m e) = s ≡ false
+
+pub plus-finite : (x : Float) → Plus x → finite x ≡ true
+plus-finite nan p = absurd p
+plus-finite (inf s) p = absurd p
+plus-finite (fin s m e) p = refl
 
 pub zero-plus : Plus zero32
 zero-plus = subst Plus (sym zero-is) refl
@@ -69,7 +74,7 @@ no-part u c d = omega arith
 some-part : (n d : ℕ) → n * 1 ≡ 0 * 1 * d → 0 < n → ⊥
 some-part n d h p = omega arith
 
-zero-value : (z : Float) → isZero z ≡ true → (c : ℕ) → (t : Bool) × HasValue z t 0 c
+pub zero-value : (z : Float) → isZero z ≡ true → (c : ℕ) → (t : Bool) × HasValue z t 0 c
 zero-value nan h c = absurd (subst T (sym h) tt)
 zero-value (inf s) h c = absurd (subst T (sym h) tt)
 zero-value (fin s m e) h c = (s, (refl, ap (λ (k : ℕ). k * up e * c) (eqb-true m 0 h) ∙ no-part (up e) c (down e)))
@@ -122,13 +127,15 @@ mul-plus f x y p q h =
     let e = mul-at f x y false false (num x) (den x) (num y) (den y) (den-pos x) (den-pos y) (plus-value x p) (plus-value y q) in
     subst Plus (sym e) (value-plus (round f false a c) (grid f a c) _ (round-val f a c (round-under f a c (subst T (sym (ap finite (sym e) ∙ h)) tt))))
 
--- the product with a zero of either sign is a zero
-pub mul-zero-right : (f : Format) (x z : Float) → Plus x → isZero z ≡ true → isZero (mul f x z) ≡ true
-mul-zero-right f x z p h =
+-- the product of a finite number with a zero of either sign is a zero
+pub mul-zero-right : (f : Format) (x z : Float) → finite x ≡ true → isZero z ≡ true → isZero (mul f x z) ≡ true
+mul-zero-right f nan z p h = absurd (false≢true p)
+mul-zero-right f (inf s) z p h = absurd (false≢true p)
+mul-zero-right f (fin s m e) z p h =
     let w = zero-value z h 1 in
     ap isZero
-    (mul-at f x z false (w .0) (num x) (den x) 0 1 (den-pos x) (zero-lt-suc 0) (plus-value x p) (w .1)
-    ∙ round-zero f (unlike false (w .0)) (num x * 0) (den x * 1) (mul-zero (num x)) (mul-pos (den-pos x) (zero-lt-suc 0)))
+    (mul-at f (fin s m e) z s (w .0) (m * up e) (down e) 0 1 (down-pos e) (zero-lt-suc 0) (refl, refl) (w .1)
+    ∙ round-zero f (unlike s (w .0)) (m * up e * 0) (down e * 1) (mul-zero (m * up e)) (mul-pos (down-pos e) (zero-lt-suc 0)))
 
 -- that of +0 is +0
 pub mul-zero-left : (f : Format) (z x : Float) → z ≡ zero32 → Plus x → mul f z x ≡ zero32

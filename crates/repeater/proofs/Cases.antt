@@ -6,36 +6,45 @@ use lib.Count.{trailingZeros}
 use lib.Ieee.{Float, binary32, span, climb, size, odd, units, round, neg, sum, add, sub, mul, div, lt, le, isNan, ofInt, ofFields, ofBits}
 use Rattle.ieee.specs.Choice.{max}
 use Rattle.ieee.specs.Fused.{fma}
-use Rattle.repeater.specs.declared.Matrix.{Matrix}
+use Rattle.matrix.specs.declared.Matrix.{Matrix}
 use Rattle.repeater.specs.declared.RepeaterStyle.{RepeaterStyle}
-use Rattle.repeater.specs.Matrix.{concat, preTranslate, preScale}
-use Rattle.repeater.specs.Repeater.{copyCount, stepScale, stepShift, stepMatrix, stepTransform, steps, iterationTransform, copyTransform, opacityOf, copyOpacity}
+use Rattle.sine.specs.Table.{sines}
+use Rattle.sine.specs.Quadrants.{foldOf, sizeOf, minusOf, onOf}
+use Rattle.angle.specs.Sixteenths.{sixteenthsOf, reduced, turnOf}
+use Rattle.angle.specs.Direction.{sineOf, cosineOf, directionOf}
+use Rattle.matrix.specs.Matrix.{concat, preTranslate, preScale, preRotate, rotated}
+use Rattle.repeater.specs.Repeater.{copyCount, stepScale, stepPart, stepMatrix, stepTransform, steps, iterationTransform, copyTransform, opacityOf, copyOpacity}
 
 -- an f32 by its bit pattern
 abbrev f : ℕ → Float
 f n = ofBits binary32 n
 
--- so many copies from an offset on, with the opacity falling from 1 to 0; the position is (10, 0)
-abbrev repeater : ℕ → ℕ → ℕ → ℕ → ℕ → ℕ → RepeaterStyle
-repeater copies offset ax ay sx sy =
+-- so many copies from an offset on, with the opacity falling from 1 to 0
+abbrev style : ℕ → ℕ → ℕ → ℕ → ℕ → ℕ → ℕ → ℕ → RepeaterStyle
+style copies offset ax ay x sx sy rotation =
     record {
       copies = f copies;
       offset = f offset;
       mode = 0;
       anchor = record { x = f ax; y = f ay };
-      position = record { x = f 0x4120_0000; y = f 0 };
+      position = record { x = f x; y = f 0 };
       scale = record { x = f sx; y = f sy };
-      rotation = f 0;
+      rotation = f rotation;
       «start_opacity» = f 0x3f80_0000;
       «end_opacity» = f 0;
     }
 
--- a copy, and its matrix: no zero of it is negative, and b and c are zero
+-- the position is (10, 0), and nothing turns
+abbrev repeater : ℕ → ℕ → ℕ → ℕ → ℕ → ℕ → RepeaterStyle
+repeater copies offset ax ay sx sy = style copies offset ax ay 0x4120_0000 sx sy 0
+
+-- a copy, and its matrix
 record Case : Type 0 where
   style : RepeaterStyle
   copy : ℕ
   matrix : Matrix
 
+-- no zero of it is negative, and b and c are zero
 abbrev given : RepeaterStyle → ℕ → ℕ → ℕ → ℕ → ℕ → Case
 given style copy a d e g = record { style = style; copy = copy; matrix = record { a = f a; b = f 0; c = f 0; d = f d; e = f e; f = f g } }
 
@@ -62,8 +71,32 @@ cases =
     ∷ []
 
 cases-hold : map computed cases ≡ cases
-unfolding trailingZeros span climb size odd units round neg sum add sub mul div lt le isNan ofInt ofFields ofBits max fma concat preTranslate preScale stepScale stepShift stepMatrix stepTransform steps iterationTransform copyTransform
+unfolding trailingZeros span climb size odd units round neg sum add sub mul div lt le isNan ofInt ofFields ofBits max fma concat preTranslate preScale preRotate sixteenthsOf reduced turnOf stepScale stepPart stepMatrix stepTransform steps iterationTransform copyTransform
 cases-hold = refl
+
+-- five copies in one place, each turned further
+abbrev turning : ℕ → ℕ → ℕ → RepeaterStyle
+turning offset sx rotation = style 0x40a0_0000 offset 0 0 0 sx 0x42c8_0000 rotation
+
+abbrev turned : RepeaterStyle → ℕ → ℕ → ℕ → ℕ → ℕ → Case
+turned style copy a b c d = record { style = style; copy = copy; matrix = record { a = f a; b = f b; c = f c; d = f d; e = f 0; f = f 0 } }
+
+-- Turned by 90 degrees: once, twice, where c is -0, and back; by 30 degrees; by 359.97, whose every step is a whole turn; and by 90 with a scale of 200,
+-- along the way that the copy's own x has turned to.
+abbrev turnedCases : List Case
+turnedCases =
+    turned (turning 0 0x42c8_0000 0x42b4_0000) 1 0 0x3f80_0000 0xbf80_0000 0
+    ∷ turned (turning 0 0x42c8_0000 0x42b4_0000) 2 0xbf80_0000 0 0x8000_0000 0xbf80_0000
+    ∷ turned (turning 0xbf80_0000 0x42c8_0000 0x42b4_0000) 0 0 0xbf80_0000 0x3f80_0000 0
+    ∷ turned (turning 0 0x42c8_0000 0x41f0_0000) 1 0x3f5d_b3d7 0x3f00_0000 0xbf00_0000 0x3f5d_b3d7
+    ∷ turned (turning 0 0x42c8_0000 0x43b3_fc29) 3 0x3f80_0000 0 0 0x3f80_0000
+    ∷ turned (turning 0 0x4348_0000 0x42b4_0000) 1 0 0x4000_0000 0xbf80_0000 0
+    ∷ []
+
+turned-cases-hold : map computed turnedCases ≡ turnedCases
+unfolding trailingZeros span climb size odd units round neg sum add sub mul div lt le isNan ofInt ofFields ofBits max fma concat preTranslate preScale preRotate rotated
+    sixteenthsOf reduced turnOf sineOf cosineOf directionOf sines foldOf sizeOf minusOf onOf stepScale stepPart stepMatrix stepTransform steps iterationTransform copyTransform
+turned-cases-hold = refl
 
 -- three copies: 1, 0.5 and 0
 opacities : copyOpacity plain 0 ∷ copyOpacity plain 1 ∷ copyOpacity plain 2 ∷ [] ≡ f 0x3f80_0000 ∷ f 0x3f00_0000 ∷ f 0 ∷ []

@@ -1,4 +1,4 @@
--- A repeater that scales by 100 per cent, with its position and its anchor on the grid of 1 / 1024, enlarged by a power of two: the matrix of each copy is a translation, and
+-- A repeater that scales by 100 per cent and does not rotate, with its position and its anchor on the grid of 1 / 1024, enlarged by a power of two: the matrix of each copy is a translation, and
 -- its shift is multiplied, however many steps it takes. Opacities and the number of copies stay. Assumes nothing.
 use mathlib.Core.Path.{_≡_, refl, sym, ap, _∙_, subst}
 use mathlib.Core.Bool.{Bool, true, false, cond, false≢true}
@@ -9,29 +9,35 @@ use borrow.Author.Tests.{ltb-true, le-ltb}
 use lib.Dec.{T, lit≤, lit<}
 use lib.IntN.{ℤ, pos}
 use lib.Pow.{pow-pos}
-use lib.Ieee.{Float, nan, inf, fin, up, down, unlike, binary32, fits, span, climb, size, odd, units, round, neg, sum, add, sub, mul, div, lt, isNan, ofInt, ofFields, ofBits}
+use lib.Ieee.{Float, nan, inf, fin, up, down, unlike, binary32, fits, span, climb, size, odd, units, round, neg, sum, add, sub, mul, div, lt, eq, isNan, ofInt, ofFields, ofBits}
 use lib.Ieee.Exact.{HasValue, round-exact}
 use lib.Ieee.Fits.{sub-fits, down-pos}
+use lib.Ieee.Scale.{finite}
 use Rattle.ieee.specs.Literal.{zero32, one32, hundred32, epsilon32}
 use Rattle.ieee.specs.Operators.{_⊕_, _⊖_, _⊗_}
-use Rattle.ieee.specs.Sign.{abs}
+use Rattle.ieee.specs.Sign.{abs, isZero}
 use Rattle.ieee.specs.Limit.{within, Bounded}
 use Rattle.ieee.specs.Choice.{max}
 use Rattle.ieee.specs.Fused.{fma}
 use Rattle.ieee.specs.Grid.{On, Twin}
-use Rattle.ieee.proofs.Operations.{sub-is, add-at, fma-at}
-use Rattle.ieee.proofs.Value.{rescale, neg-val}
+use Rattle.ieee.proofs.Operations.{mul-swap, fma-at}
+use Rattle.ieee.proofs.Zeros.{level-zero, mul-zero-right}
+use Rattle.ieee.proofs.Value.{value-finite, rescale}
 use Rattle.ieee.proofs.Comparison.{lt-at}
 use Rattle.ieee.proofs.Grid.{weaken, big-on}
 use Rattle.ieee.proofs.Twins.{zero-twin, twin-weaken, twin-neg, twin-add, twin-add-absorb-right, twin-mul, twin-mul-right}
-use Rattle.ieee.proofs.Bounds.{within→bounded, add-bounded, round-bounded, reach-whole}
+use Rattle.ieee.proofs.Bounds.{within→bounded, bounded-weaken, add-bounded, round-bounded, reach-whole}
 use Rattle.count.specs.Count.{countDown, countUp}
-use Rattle.repeater.specs.declared.Matrix.{Matrix}
+use Rattle.angle.specs.Sixteenths.{turnOf}
+use Rattle.angle.proofs.Reduced.{zero-turn}
+use Rattle.matrix.specs.declared.Matrix.{Matrix}
+use Rattle.matrix.proofs.Ways.{rotate-none}
+use Rattle.repeater.proofs.Part.{part-bounded}
 use Rattle.repeater.specs.declared.RepeaterStyle.{RepeaterStyle}
-use Rattle.repeater.specs.Matrix.{identity, concat, preTranslate, preScale}
-use Rattle.repeater.specs.Repeater.{leastScale, mostOffset, copyCount, stepScale, direction, stepShift, stepMatrix, stepTransform, steps, iterationTransform, copyTransform, opacityOf, copyOpacity}
+use Rattle.matrix.specs.Matrix.{identity, concat, preTranslate, preScale}
+use Rattle.repeater.specs.Repeater.{leastScale, mostOffset, copyCount, stepScale, direction, stepPart, stepMatrix, stepTransform, steps, iterationTransform, copyTransform, opacityOf, copyOpacity}
 
--- ---- the two repeaters. What no definition here reads, the mode and the rotation, is left free
+-- ---- the two repeaters. What no definition here reads, the mode, is left free
 pub record RepeaterTwin (k : ℕ) (r r' : RepeaterStyle) : Type 0 where
   pub copies-same : r' .copies ≡ r .copies
   pub offset-same : r' .offset ≡ r .offset
@@ -41,6 +47,8 @@ pub record RepeaterTwin (k : ℕ) (r r' : RepeaterStyle) : Type 0 where
   pub high-scale : r .scale .y ≡ hundred32
   pub wide-scale' : r' .scale .x ≡ hundred32
   pub high-scale' : r' .scale .y ≡ hundred32
+  pub still : eq (r .rotation) zero32 ≡ true
+  pub still' : eq (r' .rotation) zero32 ≡ true
   pub x-twin : Twin k 10 13 (r .position .x) (r' .position .x)
   pub y-twin : Twin k 10 13 (r .position .y) (r' .position .y)
   pub ax-twin : Twin k 10 13 (r .anchor .x) (r' .anchor .x)
@@ -107,6 +115,13 @@ product-one' : zero32 ⊗ zero32 ⊕ one32 ⊗ one32 ≡ one32
 unfolding span climb size odd units round sum add mul ofFields ofBits
 product-one' = refl
 
+-- ---- a zero times a finite number
+zero-times : (x y : Float) → finite y ≡ true → isZero x ≡ true → isZero (x ⊗ y) ≡ true
+zero-times x y f h = ap isZero (mul-swap binary32 x y) ∙ mul-zero-right binary32 y x f h
+
+direction-finite : (inverse : Bool) → finite (direction inverse) ≡ true
+direction-finite inverse = let W = direction-weight inverse in value-finite (direction inverse) (W .sign) (W .count) (2 ^ 0) (W .value)
+
 -- ---- a scale of 100 per cent, in part or inverse, is 1
 no-change : div binary32 hundred32 hundred32 ⊖ one32 ≡ zero32
 unfolding span climb size odd units round neg sum add sub div ofFields ofBits
@@ -144,19 +159,29 @@ scale-one scale percent inverse e P =
 abbrev along : Float → Float → Float → Float → Float → Float
 along u v x y z = u ⊗ x ⊕ v ⊗ y ⊕ z
 
-step-is : (x y ax ay : Float)
-    → stepMatrix x y ax ay one32 one32
+step-is : (x y ax ay degrees : Float) → turnOf degrees ≡ 0
+    → stepMatrix x y ax ay degrees one32 one32
     ≡ translation (along one32 zero32 (neg ax) (neg ay) (along one32 zero32 ax ay (along one32 zero32 x y zero32)))
     (along zero32 one32 (neg ax) (neg ay) (along zero32 one32 ax ay (along zero32 one32 x y zero32)))
 unfolding stepMatrix preTranslate preScale
-step-is x y ax ay = λ i. record {
-  a = one-one i;
-  b = zero-one i;
-  c = zero-one i;
-  d = one-one i;
-  e = along (one-one i) (zero-one i) (neg ax) (neg ay) (along one32 zero32 ax ay (along one32 zero32 x y zero32));
-  f = along (zero-one i) (one-one i) (neg ax) (neg ay) (along zero32 one32 ax ay (along zero32 one32 x y zero32));
-}
+step-is x y ax ay degrees still =
+    ap (λ (z : Matrix). preTranslate (preScale z one32 one32) (neg ax) (neg ay)) (rotate-none (preTranslate (preTranslate identity x y) ax ay) degrees still)
+    ∙ (λ i. record {
+      a = one-one i;
+      b = zero-one i;
+      c = zero-one i;
+      d = one-one i;
+      e = along (one-one i) (zero-one i) (neg ax) (neg ay) (along one32 zero32 ax ay (along one32 zero32 x y zero32));
+      f = along (zero-one i) (one-one i) (neg ax) (neg ay) (along zero32 one32 ax ay (along zero32 one32 x y zero32));
+    })
+
+-- a part of no rotation is none
+part-still : (rotation percent : Float) (inverse : Bool) → eq rotation zero32 ≡ true → On 46 0 percent → turnOf (stepPart rotation percent inverse) ≡ 0
+unfolding stepPart
+part-still rotation percent inverse h P =
+    zero-turn (stepPart rotation percent inverse)
+    (zero-times (rotation ⊗ direction inverse) percent (value-finite percent (P .sign) (P .count) (2 ^ 46) (P .value))
+    (zero-times rotation (direction inverse) (direction-finite inverse) (level-zero rotation h)))
 
 concat-is : (e g x y : Float) → concat (translation e g) (translation x y) ≡ translation (along one32 zero32 x y e) (along zero32 one32 x y g)
 unfolding concat
@@ -193,8 +218,8 @@ module _ {k : ℕ} (K : k ≤ 6) where
         (along-twin (omega arith) (twin-weaken k 10 13 56 14 ax ax' (lit≤ tt) (lit≤ tt) A) (twin-weaken k 10 13 56 14 ay ay' (lit≤ tt) (lit≤ tt) B) (along-twin (omega arith) X Y (zero-twin k 56 14)))
 
   -- ---- a step
-  part-twin : {p p' percent : Float} (inverse : Bool) → On 46 0 percent → Twin k 10 13 p p' → Twin k 56 13 (stepShift p percent inverse) (stepShift p' percent inverse)
-  unfolding stepShift
+  part-twin : {p p' percent : Float} (inverse : Bool) → On 46 0 percent → Twin k 10 13 p p' → Twin k 56 13 (stepPart p percent inverse) (stepPart p' percent inverse)
+  unfolding stepPart
   part-twin {p} {p'} {percent} inverse P X =
       twin-mul binary32 k 10 13 46 0 (p ⊗ direction inverse) (p' ⊗ direction inverse) percent (lit≤ tt) (omega arith)
       (twin-mul binary32 k 10 13 0 0 p p' (direction inverse) (lit≤ tt) (omega arith) X (direction-weight inverse)) P
@@ -203,10 +228,12 @@ module _ {k : ℕ} (K : k ≤ 6) where
     step-moved : (percent : Float) (inverse : Bool) → On 46 0 percent → Moved k 56 17 (stepTransform r percent inverse) (stepTransform r' percent inverse)
     unfolding stepTransform
     step-moved percent inverse P =
-        let x = stepShift (r .position .x) percent inverse in
-        let y = stepShift (r .position .y) percent inverse in
-        let x' = stepShift (r' .position .x) percent inverse in
-        let y' = stepShift (r' .position .y) percent inverse in
+        let x = stepPart (r .position .x) percent inverse in
+        let y = stepPart (r .position .y) percent inverse in
+        let x' = stepPart (r' .position .x) percent inverse in
+        let y' = stepPart (r' .position .y) percent inverse in
+        let t = stepPart (r .rotation) percent inverse in
+        let t' = stepPart (r' .rotation) percent inverse in
         let X = part-twin inverse P (R .x-twin) in
         let Y = part-twin inverse P (R .y-twin) in
         moved
@@ -214,46 +241,14 @@ module _ {k : ℕ} (K : k ≤ 6) where
         (along one32 zero32 (neg (r' .anchor .x)) (neg (r' .anchor .y)) (along one32 zero32 (r' .anchor .x) (r' .anchor .y) (along one32 zero32 x' y' zero32)))
         (along zero32 one32 (neg (r .anchor .x)) (neg (r .anchor .y)) (along zero32 one32 (r .anchor .x) (r .anchor .y) (along zero32 one32 x y zero32)))
         (along zero32 one32 (neg (r' .anchor .x)) (neg (r' .anchor .y)) (along zero32 one32 (r' .anchor .x) (r' .anchor .y) (along zero32 one32 x' y' zero32)))
-        ((λ i. stepMatrix x y (r .anchor .x) (r .anchor .y) (scale-one (r .scale .x) percent inverse (R .wide-scale) P i) (scale-one (r .scale .y) percent inverse (R .high-scale) P i))
-        ∙ step-is x y (r .anchor .x) (r .anchor .y))
-        ((λ i. stepMatrix x' y' (r' .anchor .x) (r' .anchor .y) (scale-one (r' .scale .x) percent inverse (R .wide-scale') P i) (scale-one (r' .scale .y) percent inverse (R .high-scale') P i))
-        ∙ step-is x' y' (r' .anchor .x) (r' .anchor .y))
+        ((λ i. stepMatrix x y (r .anchor .x) (r .anchor .y) t (scale-one (r .scale .x) percent inverse (R .wide-scale) P i) (scale-one (r .scale .y) percent inverse (R .high-scale) P i))
+        ∙ step-is x y (r .anchor .x) (r .anchor .y) t (part-still (r .rotation) percent inverse (R .still) P))
+        ((λ i. stepMatrix x' y' (r' .anchor .x) (r' .anchor .y) t' (scale-one (r' .scale .x) percent inverse (R .wide-scale') P i) (scale-one (r' .scale .y) percent inverse (R .high-scale') P i))
+        ∙ step-is x' y' (r' .anchor .x) (r' .anchor .y) t' (part-still (r' .rotation) percent inverse (R .still') P))
         (shift-twin one-weight zero-weight X Y (R .ax-twin) (R .ay-twin))
         (shift-twin zero-weight one-weight X Y (R .ax-twin) (R .ay-twin))
 
 -- ---- the part of a step: at most 1, and on a grid that every f32 above 2 ^ -23 is on
-whole-value : (n c : ℕ) → n ≤ 8192 → HasValue (ofInt binary32 (pos n)) false (n * c) c
-unfolding ofInt
-whole-value n c l =
-    rescale (round binary32 false n 1) false n 1 (n * c) c (lit< tt) (mul-one (n * c))
-    (round-exact binary32 false n 1 n 149 (lit< tt) (lt-of-le-of-lt l (lit< tt)) (mul-lt-mul-of-pos-right {n = 2 ^ 128} (lt-of-le-of-lt l (lit< tt)) (pow-pos 149)) (sym (mul-one (n * 2 ^ 149))))
-
-sum-minus : (a b c : ℕ) → b ≤ a → sum binary32 false a true b c ≡ round binary32 false (a - b) c
-unfolding sum
-sum-minus a b c h = ap (λ (t : Bool). cond t (round binary32 true (b - a) c) (round binary32 false (a - b) c)) (le-ltb a b h)
-
-no-more : (p r a : ℕ) → p + r ≡ a → p ≤ a
-no-more p r a h = omega arith
-
-left-over : (p r a c : ℕ) → p + r ≡ a → r < c → a - p ≤ 1 * c
-left-over p r a c h l = omega arith
-
-part-bounded : (x : Float) → Bounded 8192 x → Bounded 1 (abs x ⊖ ofInt binary32 (pos (countDown (abs x))))
-part-bounded nan X = absurd X
-part-bounded (inf s) X = absurd X
-part-bounded (fin s m e) X =
-    let a = m * up e in
-    let n = a / down e in
-    let y = ofInt binary32 (pos n) in
-    let low : n * down e ≤ a = no-more (n * down e) (a % down e) a (div-add-mod' a (down e)) in
-    let few : n ≤ 8192 = le-of-mul-le-mul-right (le-trans low X) (down-pos e) in
-    subst (Bounded 1)
-    (sym
-    (sub-is binary32 (fin false m e) y
-    ∙ add-at binary32 (fin false m e) (neg y) false true a (n * down e) (down e) (down-pos e) (refl, refl) (neg-val y false (n * down e) (down e) (whole-value n (down e) few))
-    ∙ sum-minus a (n * down e) (down e) low))
-    (round-bounded binary32 false (a - n * down e) (down e) 1 1 (down-pos e) (left-over (n * down e) (a % down e) a (down e) (div-add-mod' a (down e)) (mod-lt a (down-pos e))) (reach-whole binary32 1 (lit< tt)))
-
 epsilon-value : HasValue epsilon32 false 1 (2 ^ 23)
 unfolding ofBits
 epsilon-value = (refl, refl)
@@ -281,7 +276,7 @@ part-on (fin false (suc m) e) t Y h = big-on binary32 false m e 23 0 t (le-of-lt
 
 -- ---- a copy
 within-on : (x : Float) → Bounded 8192 x → lt epsilon32 (abs x ⊖ ofInt binary32 (pos (countDown (abs x)))) ≡ true → On 46 0 (abs x ⊖ ofInt binary32 (pos (countDown (abs x))))
-within-on x X h = let y = ofInt binary32 (pos (countDown (abs x))) in part-on (abs x ⊖ y) (sub-fits binary32 (abs x) y) (part-bounded x X) h
+within-on x X h = let y = ofInt binary32 (pos (countDown (abs x))) in part-on (abs x ⊖ y) (sub-fits binary32 (abs x) y) (part-bounded x (bounded-weaken 8192 (2 ^ 20) x (lit≤ tt) X)) h
 
 whole-on : On 46 0 one32
 whole-on = weaken 0 0 46 0 one32 (lit≤ tt) (lit≤ tt) one-weight

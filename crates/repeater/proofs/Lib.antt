@@ -1,5 +1,6 @@
 -- What the proofs of `repeater` cite.
 pub mod Ways
+mod Part
 mod Upright
 pub mod Enlarged
 pub mod Single

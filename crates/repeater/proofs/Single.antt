@@ -8,9 +8,9 @@ use Rattle.ieee.specs.Operators.{_⊕_, _⊖_, _⊗_}
 use Rattle.ieee.specs.Limit.{within}
 use Rattle.ieee.specs.Sign.{abs}
 use Rattle.count.specs.Count.{countDown}
-use Rattle.repeater.specs.declared.Matrix.{Matrix}
+use Rattle.matrix.specs.declared.Matrix.{Matrix}
 use Rattle.repeater.specs.declared.RepeaterStyle.{RepeaterStyle}
-use Rattle.repeater.specs.Matrix.{identity, concat}
+use Rattle.matrix.specs.Matrix.{identity, concat}
 use Rattle.ieee.specs.Single.{Single}
 use Rattle.ieee.proofs.Single.{add-single, zero-single}
 use Rattle.repeater.specs.Repeater as repeater

@@ -13,9 +13,9 @@ use Rattle.ieee.specs.Operators.{_⊕_, _⊗_}
 use Rattle.ieee.specs.Sign.{isZero}
 use Rattle.ieee.proofs.Operations.{mul-finite}
 use Rattle.ieee.proofs.Single.{zero-single}
-use Rattle.ieee.proofs.Zeros.{Plus, zero-plus, above-plus, level-zero, add-zero-right, add-zero-left, mul-plus, mul-zero-right, mul-zero-left}
-use Rattle.repeater.specs.declared.Matrix.{Matrix}
-use Rattle.repeater.specs.Matrix.{concat}
+use Rattle.ieee.proofs.Zeros.{Plus, plus-finite, zero-plus, above-plus, level-zero, add-zero-right, add-zero-left, mul-plus, mul-zero-right, mul-zero-left}
+use Rattle.matrix.specs.declared.Matrix.{Matrix}
+use Rattle.matrix.specs.Matrix.{concat}
 use Rattle.repeater.specs.Repeater.{steps}
 use Rattle.repeater.specs.Upright.{isUpright, uprightConcat, uprightSteps}
 
@@ -51,22 +51,22 @@ concat-same m n b-is c-is b-zero c-zero ma md na nd a-plus d-plus =
     λ i. record { a = A i; b = B i; c = C i; d = D i; e = m .a ⊗ n .e ⊕ sym c-is i ⊗ n .f ⊕ m .e; f = sym b-is i ⊗ n .e ⊕ m .d ⊗ n .f ⊕ m .f }
   where
     A : m .a ⊗ n .a ≡ m .a ⊗ n .a ⊕ m .c ⊗ n .b
-    A = sym (add-zero-right binary32 (m .a ⊗ n .a) (m .c ⊗ n .b) (mul-fits binary32 (m .a) (n .a)) a-plus (mul-zero-right binary32 (m .c) (n .b) (subst Plus (sym c-is) zero-plus) b-zero))
+    A = sym (add-zero-right binary32 (m .a ⊗ n .a) (m .c ⊗ n .b) (mul-fits binary32 (m .a) (n .a)) a-plus (mul-zero-right binary32 (m .c) (n .b) (plus-finite (m .c) (subst Plus (sym c-is) zero-plus)) b-zero))
 
     B : zero32 ≡ m .b ⊗ n .a ⊕ m .d ⊗ n .b
     B =
         sym
         (ap (λ (z : Float). z ⊕ m .d ⊗ n .b) (mul-zero-left binary32 (m .b) (n .a) b-is na)
-        ∙ add-zero-right binary32 zero32 (m .d ⊗ n .b) zero-single zero-plus (mul-zero-right binary32 (m .d) (n .b) md b-zero))
+        ∙ add-zero-right binary32 zero32 (m .d ⊗ n .b) zero-single zero-plus (mul-zero-right binary32 (m .d) (n .b) (plus-finite (m .d) md) b-zero))
 
     C : zero32 ≡ m .a ⊗ n .c ⊕ m .c ⊗ n .d
     C =
         sym
         (ap (λ (z : Float). m .a ⊗ n .c ⊕ z) (mul-zero-left binary32 (m .c) (n .d) c-is nd)
-        ∙ add-zero-left binary32 (m .a ⊗ n .c) zero32 zero-single zero-plus (mul-zero-right binary32 (m .a) (n .c) ma c-zero))
+        ∙ add-zero-left binary32 (m .a ⊗ n .c) zero32 zero-single zero-plus (mul-zero-right binary32 (m .a) (n .c) (plus-finite (m .a) ma) c-zero))
 
     D : m .d ⊗ n .d ≡ m .b ⊗ n .c ⊕ m .d ⊗ n .d
-    D = sym (add-zero-left binary32 (m .b ⊗ n .c) (m .d ⊗ n .d) (mul-fits binary32 (m .d) (n .d)) d-plus (mul-zero-right binary32 (m .b) (n .c) (subst Plus (sym b-is) zero-plus) c-zero))
+    D = sym (add-zero-left binary32 (m .b ⊗ n .c) (m .d ⊗ n .d) (mul-fits binary32 (m .d) (n .d)) d-plus (mul-zero-right binary32 (m .b) (n .c) (plus-finite (m .b) (subst Plus (sym b-is) zero-plus)) c-zero))
 
 -- ---- steps
 record Kept (n : ℕ) (step : Matrix) : Type 0 where

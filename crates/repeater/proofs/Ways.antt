@@ -10,7 +10,7 @@ use lib.IntN.{pos}
 use lib.Ieee.{Float, nan, inf, fin, binary32, ofBits, ofInt, round, div, neg, lt, le, eq}
 use lib.Ieee.Exact.{HasValue}
 use lib.Ieee.Scale.{finite}
-use Rattle.ieee.specs.Literal.{zero32, one32, hundred32, epsilon32}
+use Rattle.ieee.specs.Literal.{zero32, one32, hundred32, epsilon32, numberLimit}
 use Rattle.ieee.specs.Operators.{_⊕_, _⊖_, _⊗_}
 use borrow.Author.Tests.{le-leb, lt-leb}
 use Rattle.ieee.specs.Sign.{abs}
@@ -19,34 +19,13 @@ use Rattle.ieee.proofs.Bounds.{within→bounded, bounded→within, add-bounded,
 use Rattle.count.specs.Count.{countDown, countUp, countLimit}
 use Rattle.ieee.specs.Choice.{max}
 use Rattle.ieee.specs.Fused.{fma}
-use Rattle.repeater.specs.declared.Matrix.{Matrix}
+use Rattle.matrix.specs.declared.Matrix.{Matrix}
 use Rattle.repeater.specs.declared.RepeaterStyle.{RepeaterStyle}
-use Rattle.repeater.specs.Matrix.{identity, concat, preTranslate, preScale}
-use Rattle.repeater.specs.Repeater.{leastScale, mostOffset, copyCount, stepScale, direction, stepShift, stepMatrix, stepTransform, steps, iterationTransform, copyTransform, opacityOf, copyOpacity}
+use Rattle.matrix.specs.Matrix.{identity, concat, preTranslate, preScale, preRotate}
+use Rattle.repeater.specs.Repeater.{leastScale, mostOffset, copyCount, stepScale, direction, stepPart, stepMatrix, stepTransform, steps, iterationTransform, copyTransform, opacityOf, copyOpacity}
 use Rattle.repeater.specs.Upright.{isUpright, uprightConcat, uprightSteps}
 use Rattle.repeater.proofs.Upright.{upright-steps}
-
--- ---- products
-pub concat-way : (m n : Matrix) → record {
-  a = m .a ⊗ n .a ⊕ m .c ⊗ n .b;
-  b = m .b ⊗ n .a ⊕ m .d ⊗ n .b;
-  c = m .a ⊗ n .c ⊕ m .c ⊗ n .d;
-  d = m .b ⊗ n .c ⊕ m .d ⊗ n .d;
-  e = m .a ⊗ n .e ⊕ m .c ⊗ n .f ⊕ m .e;
-  f = m .b ⊗ n .e ⊕ m .d ⊗ n .f ⊕ m .f;
-} ≡ concat m n
-unfolding concat
-concat-way m n = refl
-
-pub translate-way : (m : Matrix) (x y : Float) → record { a = m .a; b = m .b; c = m .c; d = m .d; e = m .a ⊗ x ⊕ m .c ⊗ y ⊕ m .e; f = m .b ⊗ x ⊕ m .d ⊗ y ⊕ m .f } ≡ preTranslate m x y
-unfolding preTranslate
-translate-way m x y = refl
-
-pub scale-way : (m : Matrix) (x y : Float) → record { a = m .a ⊗ x; b = m .b ⊗ x; c = m .c ⊗ y; d = m .d ⊗ y; e = m .e; f = m .f } ≡ preScale m x y
-unfolding preScale
-scale-way m x y = refl
-
-pub ruleset products = (concat-way, translate-way, scale-way)
+use Rattle.repeater.proofs.Part.{part-bounded, turn-inside, whole-turn-inside}
 
 -- ---- a step
 module _ (scale percent : Float) (inverse : Bool) (s : Float) (s-is : s ≡ fma binary32 (div binary32 scale hundred32 ⊖ one32) percent one32) where
@@ -64,28 +43,35 @@ direction-back inverse t = ap direction (sym t)
 pub direction-forth : (inverse : Bool) → inverse ≡ false → one32 ≡ direction inverse
 direction-forth inverse t = ap direction (sym t)
 
-pub shift-way : (position percent : Float) (inverse : Bool) (way : Float) → way ≡ direction inverse → position ⊗ way ⊗ percent ≡ stepShift position percent inverse
-unfolding stepShift
-shift-way position percent inverse way e = ap (λ (w : Float). position ⊗ w ⊗ percent) e
+pub part-way : (amount percent : Float) (inverse : Bool) (way : Float) → way ≡ direction inverse → amount ⊗ way ⊗ percent ≡ stepPart amount percent inverse
+unfolding stepPart
+part-way amount percent inverse way e = ap (λ (w : Float). amount ⊗ w ⊗ percent) e
 
-pub matrix-way : (x y ax ay sx sy : Float) (i moved anchored scaled m : Matrix) → m ≡ preTranslate scaled (neg ax) (neg ay) → scaled ≡ preScale anchored sx sy
-    → anchored ≡ preTranslate moved ax ay → moved ≡ preTranslate i x y → i ≡ identity → m ≡ stepMatrix x y ax ay sx sy
+pub matrix-way : (x y ax ay degrees sx sy : Float) (i moved anchored turned scaled m : Matrix)
+    → m ≡ preTranslate scaled (neg ax) (neg ay)
+    → scaled ≡ preScale turned sx sy → turned ≡ preRotate anchored degrees → anchored ≡ preTranslate moved ax ay → moved ≡ preTranslate i x y → i ≡ identity
+    → m ≡ stepMatrix x y ax ay degrees sx sy
 unfolding stepMatrix
-matrix-way x y ax ay sx sy i moved anchored scaled m m-is scaled-is anchored-is moved-is i-is =
+matrix-way x y ax ay degrees sx sy i moved anchored turned scaled m m-is scaled-is turned-is anchored-is moved-is i-is =
     m-is
-    ∙ ap (λ (z : Matrix). preTranslate z (neg ax) (neg ay)) scaled-is
-    ∙ ap (λ (z : Matrix). preTranslate (preScale z sx sy) (neg ax) (neg ay)) anchored-is
-    ∙ ap (λ (z : Matrix). preTranslate (preScale (preTranslate z ax ay) sx sy) (neg ax) (neg ay)) moved-is
-    ∙ ap (λ (z : Matrix). preTranslate (preScale (preTranslate (preTranslate z x y) ax ay) sx sy) (neg ax) (neg ay)) i-is
+    ∙ ap (λ (z : Matrix). preTranslate z (neg ax) (neg ay))
+    (scaled-is
+    ∙ ap (λ (z : Matrix). preScale z sx sy)
+    (turned-is ∙ ap (λ (z : Matrix). preRotate z degrees) (anchored-is ∙ ap (λ (z : Matrix). preTranslate z ax ay) (moved-is ∙ ap (λ (z : Matrix). preTranslate z x y) i-is))))
 
-pub step-way : (r : RepeaterStyle) (percent : Float) (inverse : Bool) (x y sx sy : Float) (m : Matrix) → m ≡ stepMatrix x y (r .anchor .x) (r .anchor .y) sx sy
-    → x ≡ stepShift (r .position .x) percent inverse → y ≡ stepShift (r .position .y) percent inverse
+pub step-way : (r : RepeaterStyle) (percent : Float) (inverse : Bool) (x y degrees sx sy : Float) (m : Matrix)
+    → m ≡ stepMatrix x y (r .anchor .x) (r .anchor .y) degrees sx sy
+    → x ≡ stepPart (r .position .x) percent inverse → y ≡ stepPart (r .position .y) percent inverse → degrees ≡ stepPart (r .rotation) percent inverse
     → sx ≡ stepScale (r .scale .x) percent inverse → sy ≡ stepScale (r .scale .y) percent inverse → m ≡ stepTransform r percent inverse
 unfolding stepTransform
-step-way r percent inverse x y sx sy m m-is x-is y-is sx-is sy-is =
-    m-is ∙ (λ i. stepMatrix (x-is i) (y-is i) (r .anchor .x) (r .anchor .y) (sx-is i) (sy-is i))
+step-way r percent inverse x y degrees sx sy m m-is x-is y-is degrees-is sx-is sy-is =
+    m-is ∙ (λ i. stepMatrix (x-is i) (y-is i) (r .anchor .x) (r .anchor .y) (degrees-is i) (sx-is i) (sy-is i))
 
-pub ruleset stepping = (scale-back, scale-forth, direction-back, direction-forth, shift-way, matrix-way, step-way)
+-- the angle of a step
+pub degrees-inside : (degrees part : Float) → degrees ≡ part → within numberLimit part ≡ true → within numberLimit degrees ≡ true
+degrees-inside degrees part e h = ap (within numberLimit) e ∙ h
+
+pub ruleset stepping = (scale-back, scale-forth, direction-back, direction-forth, part-way, matrix-way, step-way, degrees-inside)
 
 -- ---- steps
 module _ (step : Matrix) where
@@ -153,6 +139,10 @@ module _ (step : Matrix) where
 pub ruleset quickly = (not-upright-b, not-upright-c, not-upright-a, upright-d, upright-concat-way, upright-none, upright-next, upright-end, upright-all)
 
 -- ---- iteration_transform
+limit-value : HasValue countLimit false (2 ^ 20) 1
+unfolding ofBits
+limit-value = (refl, refl)
+
 abs-abs : (x : Float) → abs (abs x) ≡ abs x
 abs-abs nan = refl
 abs-abs (inf s) = refl
@@ -196,16 +186,20 @@ module _ (r : RepeaterStyle) (x : Float) (t : Bool) (t-is : t ≡ within epsilon
 pub size-inside : (x size : Float) → size ≡ abs x → within countLimit x ≡ true → within countLimit size ≡ true
 size-inside x size e h = ap (λ (y : Float). le (abs y) countLimit) e ∙ ap (λ (y : Float). le y countLimit) (abs-abs x) ∙ h
 
-pub ruleset iterating = (iteration-none, iteration-whole, iteration-part, size-inside)
+pub rest-turn-inside : (rotation x size f : Float) (whole : ℕ) (inverse : Bool) → size ≡ abs x → whole ≡ countDown size → f ≡ round binary32 false whole 1
+    → within countLimit x ≡ true → within numberLimit rotation ≡ true → within numberLimit (stepPart rotation (size ⊖ f) inverse) ≡ true
+rest-turn-inside rotation x size f whole inverse size-is whole-is f-is inside h =
+    let n : whole ≡ countDown (abs x) = whole-is ∙ ap countDown size-is in
+    let left : size ⊖ f ≡ abs x ⊖ ofInt binary32 (pos (countDown (abs x))) =
+    λ i. size-is i ⊖ (f-is ∙ of-whole whole ∙ ap (λ (k : ℕ). ofInt binary32 (pos k)) n) i in
+    turn-inside rotation (size ⊖ f) inverse h (subst (Bounded 1) (sym left) (part-bounded x (within→bounded (2 ^ 20) countLimit x limit-value inside)))
+
+pub ruleset iterating = (iteration-none, iteration-whole, iteration-part, size-inside, whole-turn-inside, rest-turn-inside)
 
 -- ---- copy_transform
 most-value : HasValue mostOffset false 4096 1
 unfolding ofBits
 most-value = (refl, refl)
-
-limit-value : HasValue countLimit false (2 ^ 20) 1
-unfolding ofBits
-limit-value = (refl, refl)
 
 pub iteration-inside : (offset f : Float) (copy : ℕ) → f ≡ round binary32 false copy 1 → within mostOffset offset ≡ true → copy ≤ 4096 → within countLimit (offset ⊕ f) ≡ true
 iteration-inside offset f copy f-is h l =

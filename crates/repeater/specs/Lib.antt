@@ -1,4 +1,3 @@
 -- Repeaters: copies of a path, each with its own place and strength.
-pub mod Matrix
 pub mod Repeater
 pub mod Upright

@@ -11,9 +11,9 @@ use Rattle.ieee.specs.Limit.{within}
 use Rattle.ieee.specs.Choice.{max}
 use Rattle.ieee.specs.Fused.{fma}
 use Rattle.count.specs.Count.{countDown, countUp}
-use Rattle.repeater.specs.declared.Matrix.{Matrix}
+use Rattle.matrix.specs.declared.Matrix.{Matrix}
 use Rattle.repeater.specs.declared.RepeaterStyle.{RepeaterStyle}
-use Rattle.repeater.specs.Matrix.{identity, concat, preTranslate, preScale}
+use Rattle.matrix.specs.Matrix.{identity, concat, preTranslate, preScale, preRotate}
 
 -- how many copies there are: the ceiling, not below 0
 unfoldable pub copyCount : RepeaterStyle → ℕ
@@ -33,20 +33,21 @@ stepScale scale percent inverse =
 abbrev pub direction : Bool → Float
 direction inverse = cond inverse (neg one32) one32
 
--- a part of a step's shift
-unfoldable pub stepShift : Float → Float → Bool → Float
-stepShift position percent inverse = position ⊗ direction inverse ⊗ percent
+-- a part of a step's shift along an axis; and of its angle, 'rotation times sign times percent'
+unfoldable pub stepPart : Float → Float → Bool → Float
+stepPart amount percent inverse = amount ⊗ direction inverse ⊗ percent
 
--- a shift, then a scaling around an anchor
-unfoldable pub stepMatrix : Float → Float → Float → Float → Float → Float → Matrix
-stepMatrix x y anchorX anchorY scaleX scaleY =
-    preTranslate (preScale (preTranslate (preTranslate identity x y) anchorX anchorY) scaleX scaleY) (neg anchorX) (neg anchorY)
+-- a shift, then a rotation, by degrees, and a scaling around an anchor: the rotation is 'in source order between anchor and scale'
+unfoldable pub stepMatrix : Float → Float → Float → Float → Float → Float → Float → Matrix
+stepMatrix x y anchorX anchorY degrees scaleX scaleY =
+    let anchored = preTranslate (preTranslate identity x y) anchorX anchorY in
+    preTranslate (preScale (preRotate anchored degrees) scaleX scaleY) (neg anchorX) (neg anchorY)
 
--- `repeater_step_transform`, for a rotation of zero, which leaves the matrix as it is
+-- `repeater_step_transform`, with the rotation in degrees, where the Rust has radians
 unfoldable pub stepTransform : RepeaterStyle → Float → Bool → Matrix
 stepTransform r percent inverse =
-    stepMatrix (stepShift (r .position .x) percent inverse) (stepShift (r .position .y) percent inverse) (r .anchor .x) (r .anchor .y)
-    (stepScale (r .scale .x) percent inverse) (stepScale (r .scale .y) percent inverse)
+    stepMatrix (stepPart (r .position .x) percent inverse) (stepPart (r .position .y) percent inverse) (r .anchor .x) (r .anchor .y)
+    (stepPart (r .rotation) percent inverse) (stepScale (r .scale .x) percent inverse) (stepScale (r .scale .y) percent inverse)
 
 -- so many steps, one after another
 unfoldable pub steps : ℕ → Matrix → Matrix

@@ -4,8 +4,8 @@ use mathlib.Core.Bool.{Bool, _&&_}
 use lib.Ieee.{eq, lt}
 use Rattle.ieee.specs.Literal.{zero32}
 use Rattle.ieee.specs.Operators.{_⊕_, _⊗_}
-use Rattle.repeater.specs.declared.Matrix.{Matrix}
-use Rattle.repeater.specs.Matrix.{identity}
+use Rattle.matrix.specs.declared.Matrix.{Matrix}
+use Rattle.matrix.specs.Matrix.{identity}
 
 -- b and c are zeros, of either sign, and a and d are above zero
 unfoldable pub isUpright : Matrix → Bool

@@ -1,11 +1,12 @@
 // The copies of a repeater: `repeater_transform_for_copy` of drawing_paths.rs and what it calls.
+use matrix::Matrix;
 use point::Point;
 ghost use mathlib.Core.Path.{_≡_};
 ghost use Prim.Native.Nat.{_^_, _≤_};
 ghost use mathlib.Core.Bool.{true};
+ghost use Rattle.ieee.specs.Literal.{numberLimit};
 ghost use Rattle.ieee.specs.Limit.{within};
 ghost use Rattle.count.specs.Count.{countLimit};
-ghost use Rattle.repeater.specs.Matrix as matrix;
 ghost use Rattle.repeater.specs.Repeater as spec;
 ghost use Rattle.repeater.specs.Upright as upright;
 
@@ -23,69 +24,6 @@ pub struct RepeaterStyle {
     pub rotation: f32,
     pub start_opacity: f32,
     pub end_opacity: f32,
-}
-
-// Sends (p, q) to (a·p + c·q + e, b·p + d·q + f).
-pub struct Matrix {
-    pub a: f32,
-    pub b: f32,
-    pub c: f32,
-    pub d: f32,
-    pub e: f32,
-    pub f: f32,
-}
-
-pub fn identity() -> Matrix
-    ensures { λ r. ⌜ r ≡ matrix.identity ⌝ }
-{
-    Matrix {
-        a: 1.0,
-        b: 0.0,
-        c: 0.0,
-        d: 1.0,
-        e: 0.0,
-        f: 0.0,
-    }
-}
-
-// The product of two: n acts first.
-fn concat(m: Matrix, n: Matrix) -> Matrix
-    ensures { λ r. ⌜ r ≡ matrix.concat m n ⌝ }
-{
-    Matrix {
-        a: m.a * n.a + m.c * n.b,
-        b: m.b * n.a + m.d * n.b,
-        c: m.a * n.c + m.c * n.d,
-        d: m.b * n.c + m.d * n.d,
-        e: m.a * n.e + m.c * n.f + m.e,
-        f: m.b * n.e + m.d * n.f + m.f,
-    }
-}
-
-fn pre_translate(m: Matrix, x: f32, y: f32) -> Matrix
-    ensures { λ r. ⌜ r ≡ matrix.preTranslate m x y ⌝ }
-{
-    Matrix {
-        a: m.a,
-        b: m.b,
-        c: m.c,
-        d: m.d,
-        e: m.a * x + m.c * y + m.e,
-        f: m.b * x + m.d * y + m.f,
-    }
-}
-
-fn pre_scale(m: Matrix, x: f32, y: f32) -> Matrix
-    ensures { λ r. ⌜ r ≡ matrix.preScale m x y ⌝ }
-{
-    Matrix {
-        a: m.a * x,
-        b: m.b * x,
-        c: m.c * y,
-        d: m.d * y,
-        e: m.e,
-        f: m.f,
-    }
 }
 
 // A part of a step's scale, or of the inverse step's.
@@ -106,32 +44,36 @@ fn direction(inverse: bool) -> f32
     if inverse { -1.0 } else { 1.0 }
 }
 
-// A part of a step's shift.
-fn step_shift(position: f32, percent: f32, inverse: bool) -> f32
-    ensures { λ r. ⌜ r ≡ spec.stepShift position percent inverse ⌝ }
+// A part of a step's shift, or of its angle.
+fn step_part(amount: f32, percent: f32, inverse: bool) -> f32
+    ensures { λ r. ⌜ r ≡ spec.stepPart amount percent inverse ⌝ }
 {
-    position * direction(inverse) * percent
+    amount * direction(inverse) * percent
 }
 
-// A shift, then a scaling around an anchor.
-fn step_matrix(x: f32, y: f32, anchor_x: f32, anchor_y: f32, scale_x: f32, scale_y: f32) -> Matrix
-    ensures { λ r. ⌜ r ≡ spec.stepMatrix x y «anchor_x» «anchor_y» «scale_x» «scale_y» ⌝ }
+// A shift, then a rotation and a scaling around an anchor.
+fn step_matrix(x: f32, y: f32, anchor_x: f32, anchor_y: f32, degrees: f32, scale_x: f32, scale_y: f32) -> Matrix
+    requires { ⌜ within numberLimit degrees ≡ true ⌝ }
+    ensures { λ r. ⌜ r ≡ spec.stepMatrix x y «anchor_x» «anchor_y» degrees «scale_x» «scale_y» ⌝ }
 {
-    let moved = pre_translate(identity(), x, y);
-    let anchored = pre_translate(moved, anchor_x, anchor_y);
-    let scaled = pre_scale(anchored, scale_x, scale_y);
-    pre_translate(scaled, -anchor_x, -anchor_y)
+    let moved = matrix::pre_translate(matrix::identity(), x, y);
+    let anchored = matrix::pre_translate(moved, anchor_x, anchor_y);
+    let turned = matrix::pre_rotate(anchored, degrees);
+    let scaled = matrix::pre_scale(turned, scale_x, scale_y);
+    matrix::pre_translate(scaled, -anchor_x, -anchor_y)
 }
 
 // A part of a step, or of the inverse step.
 fn step_transform(repeater: RepeaterStyle, percent: f32, inverse: bool) -> Matrix
+    requires { ⌜ within numberLimit (spec.stepPart (repeater .rotation) percent inverse) ≡ true ⌝ }
     ensures { λ r. ⌜ r ≡ spec.stepTransform repeater percent inverse ⌝ }
 {
     step_matrix(
-        step_shift(repeater.position.x, percent, inverse),
-        step_shift(repeater.position.y, percent, inverse),
+        step_part(repeater.position.x, percent, inverse),
+        step_part(repeater.position.y, percent, inverse),
         repeater.anchor.x,
         repeater.anchor.y,
+        step_part(repeater.rotation, percent, inverse),
         step_scale(repeater.scale.x, percent, inverse),
         step_scale(repeater.scale.y, percent, inverse),
     )
@@ -141,10 +83,10 @@ fn step_transform(repeater: RepeaterStyle, percent: f32, inverse: bool) -> Matri
 fn plain_steps(n: u64, step: Matrix) -> Matrix
     ensures { λ m. ⌜ m ≡ spec.steps n step ⌝ }
 {
-    let mut transform = identity();
+    let mut transform = matrix::identity();
     let mut i: u64 = 0;
     while i < n {
-        transform = concat(transform, step);
+        transform = matrix::concat(transform, step);
         i += 1;
     }
     transform
@@ -182,7 +124,7 @@ fn upright_concat(m: Matrix, n: Matrix) -> Matrix
 fn upright_steps(n: u64, step: Matrix) -> Matrix
     ensures { λ m. ⌜ m ≡ upright.uprightSteps n step ⌝ }
 {
-    let mut transform = identity();
+    let mut transform = matrix::identity();
     let mut i: u64 = 0;
     while i < n {
         transform = upright_concat(transform, step);
@@ -208,11 +150,11 @@ fn steps(n: u64, step: Matrix) -> Matrix
 
 // So many steps and a part of one. At most 2^-23 in absolute value is none.
 fn iteration_transform(repeater: RepeaterStyle, iteration: f32) -> Matrix
-    requires { ⌜ within countLimit iteration ≡ true ⌝ }
+    requires { ⌜ (within countLimit iteration ≡ true) × (within numberLimit (repeater .rotation) ≡ true) ⌝ }
     ensures { λ r. ⌜ r ≡ spec.iterationTransform repeater iteration ⌝ }
 {
     if float::is_within(iteration, EPSILON) {
-        return identity();
+        return matrix::identity();
     }
     let inverse = iteration < 0.0;
     let magnitude = float::abs(iteration);
@@ -220,7 +162,7 @@ fn iteration_transform(repeater: RepeaterStyle, iteration: f32) -> Matrix
     let fraction = magnitude - whole::from_whole(false, whole);
     let transform = steps(whole, step_transform(repeater, 1.0, inverse));
     if fraction > EPSILON {
-        concat(transform, step_transform(repeater, fraction, inverse))
+        matrix::concat(transform, step_transform(repeater, fraction, inverse))
     } else {
         transform
     }
@@ -228,7 +170,7 @@ fn iteration_transform(repeater: RepeaterStyle, iteration: f32) -> Matrix
 
 // The matrix of one copy.
 pub fn copy_transform(repeater: RepeaterStyle, copy: u64) -> Matrix
-    requires { ⌜ (within spec.mostOffset (repeater .offset) ≡ true) × (copy ≤ 4096) ⌝ }
+    requires { ⌜ (within spec.mostOffset (repeater .offset) ≡ true) × (within numberLimit (repeater .rotation) ≡ true) × (copy ≤ 4096) ⌝ }
     ensures { λ r. ⌜ r ≡ spec.copyTransform repeater copy ⌝ }
 {
     iteration_transform(repeater, repeater.offset + whole::from_whole(false, copy))

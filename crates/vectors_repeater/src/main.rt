@@ -1,6 +1,6 @@
 // Runs the vectors of repeaters: reads calls from standard input, one a line, and writes what each answers.
 // tools/repeater_vectors.py makes the lines and says how they read.
-ghost use Prim.Native.Nat.{_<_};
+ghost use Prim.Native.Nat.{_<_, _≤_};
 use copies::Written;
 use libc::STDIN_FILENO;
 use libc::STDOUT_FILENO;
@@ -56,6 +56,42 @@ fn answer_copy(line: &[u8], buffer: &mut [f32]) {
     io::write_all(STDOUT_FILENO, b"\n");
 }
 
+// A repeater of two copies that turns and does nothing else.
+fn turning(rotation: f32) -> RepeaterStyle {
+    let mut numbers = [0.0; 11];
+    numbers[0] = 2.0;
+    numbers[6] = 100.0;
+    numbers[7] = 100.0;
+    numbers[8] = rotation;
+    numbers[9] = 1.0;
+    numbers[10] = 1.0;
+    copies::repeater_of(&numbers, 1)
+}
+
+// Writes the numbers a, b, c and d of copy 1 that is turned, or what their places hold where it is refused.
+fn print_turn(rotation: f32) {
+    let mut numbers = [-77.25; 7];
+    copies::copy_transform(turning(rotation), 1, &mut numbers);
+    pattern_text::print_list(&numbers[0..4]);
+}
+
+// How many rotations a line has, or the most where that is more.
+fn turn_count(line: &[u8]) -> usize
+    ensures { λ r. ⌜ r ≤ 64 ⌝ }
+{
+    let n = line.len() / 9;
+    if n < 64 { n } else { 64 }
+}
+
+// Answers with the numbers of a copy for each rotation of a line.
+fn answer_turns(line: &[u8]) {
+    io::write_all(STDOUT_FILENO, b"places");
+    for i in 0..turn_count(line) {
+        print_turn(pattern_text::number(pattern_text::field(line, i)));
+    }
+    io::write_all(STDOUT_FILENO, b"\n");
+}
+
 // Lends the first places of a list, so many as the line says.
 fn lend_order(line: &[u8], buffer: &mut [u32]) {
     let n = pattern_text::lent(line, 1, buffer.len());
@@ -74,6 +110,8 @@ fn answer(line: &[u8]) {
     io::write_all(STDOUT_FILENO, b"\n");
     if pattern_text::byte(line, 0) == b'o' {
         lend_order(line, &mut order);
+    } else if pattern_text::byte(line, 0) == b't' {
+        answer_turns(line);
     } else {
         lend_numbers(line, &mut numbers);
     }

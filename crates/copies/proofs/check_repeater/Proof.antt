@@ -19,10 +19,7 @@ returns-2 c = search (needs, verdicts)
 returns-3 : tie.Need-returns-3
 returns-3 c = search (needs, verdicts)
 
-returns-4 : tie.Need-returns-4
-returns-4 c = search (needs, verdicts)
-
 pub check-repeater-spec : {M : Type 1} → statement M
 check-repeater-spec =
     tie.close
-    (tie.spec has-too-many-requires returns is-within-requires returns-2 returns-3 returns-4)
+    (tie.spec has-too-many-requires returns is-within-requires returns-2 returns-3)

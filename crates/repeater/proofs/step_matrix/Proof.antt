@@ -13,6 +13,9 @@ pre-translate-requires c κs = search (needs, stepping)
 pre-translate-requires-2 : tie.Need-pre-translate-requires-2
 pre-translate-requires-2 c κs = search (needs, stepping)
 
+pre-rotate-requires : tie.Need-pre-rotate-requires
+pre-rotate-requires c κs = search (needs, stepping)
+
 pre-scale-requires : tie.Need-pre-scale-requires
 pre-scale-requires c κs = search (needs, stepping)
 
@@ -29,6 +32,7 @@ step-matrix-spec =
     identity-requires
     pre-translate-requires
     pre-translate-requires-2
+    pre-rotate-requires
     pre-scale-requires
     pre-translate-requires-3
     returns)

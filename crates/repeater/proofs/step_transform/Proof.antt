@@ -4,11 +4,14 @@ use Rattle.repeater.proofs.Ways.{stepping}
 use Rattle.repeater.proofs.step_transform.Statement.{statement}
 use Rattle.repeater.proofs.step_transform.Tie as tie
 
-step-shift-requires : tie.Need-step-shift-requires
-step-shift-requires c κs = search (needs, stepping)
+step-part-requires : tie.Need-step-part-requires
+step-part-requires c κs = search (needs, stepping)
 
-step-shift-requires-2 : tie.Need-step-shift-requires-2
-step-shift-requires-2 c κs = search (needs, stepping)
+step-part-requires-2 : tie.Need-step-part-requires-2
+step-part-requires-2 c κs = search (needs, stepping)
+
+step-part-requires-3 : tie.Need-step-part-requires-3
+step-part-requires-3 c κs = search (needs, stepping)
 
 step-scale-requires : tie.Need-step-scale-requires
 step-scale-requires c κs = search (needs, stepping)
@@ -26,8 +29,9 @@ pub step-transform-spec : {M : Type 1} → statement M
 step-transform-spec =
     tie.close
     (tie.spec
-    step-shift-requires
-    step-shift-requires-2
+    step-part-requires
+    step-part-requires-2
+    step-part-requires-3
     step-scale-requires
     step-scale-requires-2
     step-matrix-requires

@@ -1,0 +1,2 @@
+-- What the proofs of `matrix` cite.
+pub mod Ways

@@ -1,0 +1,2 @@
+-- Matrices and their products.
+pub mod Matrix
