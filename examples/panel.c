@@ -1,8 +1,8 @@
 /* A bag panel of a coin sorter, written to standard output as an SVG page. Each bag has a frame with a mouth, square or
    round, a ring that shows how full it is, an arrow that rises beside it, and a stack of coins, upright or fanned out.
-   Of each drawing the panel first asks what it needs, and then draws it into buffers of just that size. The panel is drawn at size 1, and
-   from enlarged input at size 2. The program compares the two and fails where the second is not the first, exactly
-   enlarged.
+   Of each drawing the panel first asks what it needs, and then draws it into buffers of just that size. The panel is
+   drawn at size 1, and from enlarged input at size 2. The program compares the two and fails where the second is not the
+   first, exactly enlarged.
 
        gcc -std=c99 -Iinclude examples/panel.c target/staticlib/libjengafir.a -o panel && ./panel >panel.svg
 

@@ -204,8 +204,9 @@ uint32_t jengafir_copy_order(const float repeater[11], uint8_t mode, uint32_t *o
 /* Puts down seven numbers for one copy: its matrix a, b, c, d, e, f, which sends (p, q) to
    (a p + c q + e, b p + d q + f), and its opacity.
    Each step turns around the anchor by the rotation, and the part of a step by its part of it, to the nearest sixteenth
-   of a degree, a half away from zero; where y points down, more degrees turn clockwise. The sine and the cosine of each
-   sixteenth are fixed to the last bit.
+   of a degree, a half away from zero; where y points down, more degrees turn clockwise. A step back, for a copy whose
+   number and the offset sum to less than zero, turns the other way. The sine and the cosine of each sixteenth are fixed
+   to the last bit.
    Refuses 2, 3 as above, then a copy that is not there with 9, numbers that are not finite with 10, and a buffer of
    fewer than seven places with 11. */
 uint32_t jengafir_copy_transform(const float repeater[11], uint8_t mode, size_t copy, float *matrix, size_t matrix_len,

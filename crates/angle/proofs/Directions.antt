@@ -1,13 +1,11 @@
 -- The cosine and the sine of an angle as the code makes them, and that a zero among them is +0. Assumes nothing.
 use mathlib.Core.Path.{_≡_, refl, sym, ap, _∙_, subst}
-use mathlib.Core.Bool.{Bool, true, false, cond}
-use Prim.Native.Nat.{ℕ, _+_, _-_, _*_, _^_, _<_, _≤_}
-use native.Mathlib.Nat.{lt-of-le-of-lt, zero-mul}
+use mathlib.Core.Bool.{Bool, true, false}
+use Prim.Native.Nat.{ℕ, _+_, _-_, _^_, _<_, _≤_}
 use native.Mathlib.Omega.{arith}
-use lib.Dec.{ltb, lit<, lit≤}
-use lib.Ieee.{Float, nan, inf, fin, up, down, binary32, round}
-use lib.Ieee.Exact.{HasValue}
-use borrow.Author.Tests.{eqb-true, ltb-true, ltb-false, le-ltb}
+use lib.Dec.{ltb, lit<}
+use lib.Ieee.{Float, binary32, round}
+use borrow.Author.Tests.{ltb-true, ltb-false}
 use Rattle.ieee.specs.Literal.{zero32}
 use Rattle.ieee.specs.Sign.{isZero}
 use Rattle.ieee.specs.Cut.{cut}
@@ -33,7 +31,6 @@ pub direction-way : (turn on c s : ℕ) (x y : Float) → on ≡ onOf turn → c
 unfolding cosineOf directionOf
 direction-way turn on c s x y on-is c-is x-is s-is y-is =
     λ i. record { cosine = (sine-way on c x c-is x-is ∙ ap sineOf on-is) i; sine = sine-way turn s y s-is y-is i }
-
 
 -- ---- zeros
 -- between 180 and 360 degrees no entry is zero

@@ -1,12 +1,12 @@
 -- A whole number of at most 2 ^ 30 as a float, over 2 ^ 30, is the float nearest to that fraction: both keep the same digits. Assumes nothing.
 use mathlib.Core.Path.{_≡_, refl, sym, ap, _∙_}
 use mathlib.Core.Bool.{Bool, true, false}
-use Prim.Native.Nat.{ℕ, _*_, _^_, _<_, _≤_}
+use Prim.Native.Nat.{ℕ, _^_, _<_, _≤_}
 use native.Mathlib.Nat.{mul-one, lt-of-le-of-lt}
 use lib.Dec.{lit≤, lit<}
 use lib.IntN.{pos}
 use lib.Pow.{pow-pos}
-use lib.Ieee.{Float, binary32, prec, round, ofInt, div, neg, ofBits}
+use lib.Ieee.{Float, binary32, round, ofInt, div, neg, ofBits}
 use lib.Ieee.Exact.{HasValue}
 use lib.Ieee.Fits.{round-fits}
 use Rattle.ieee.specs.Cut.{cut}
@@ -39,7 +39,7 @@ module _ (n : ℕ) (few : n ≤ 2 ^ 30) where
       ∙ (λ i. round binary32 false (mul-one (cut 24 n) i) (mul-one (2 ^ 30) i))
       ∙ round-own binary32 (round binary32 false n (2 ^ 30)) false (cut 24 n) (2 ^ 30) (round-fits binary32 false n (2 ^ 30)) (pow-pos 30) (over false)
 
--- ---- as `entry_as` meets them
+-- ---- as `ratio` meets them
 module _ (n : ℕ) (few : n ≤ 2 ^ 30) (minus : Bool) (x : Float) (x-is : x ≡ ofInt binary32 (pos n)) where
   quotient : div binary32 x whole ≡ round binary32 false n (2 ^ 30)
   quotient = ap (λ (y : Float). div binary32 y whole) x-is ∙ ratio n few

@@ -1,12 +1,13 @@
 -- 32 times an angle's size is a float exactly, and half of one more than its whole part is 16 times it, rounded half up.
 -- Assumes nothing.
 use mathlib.Core.Path.{_≡_, refl, sym, ap, _∙_, subst}
-use mathlib.Core.Bool.{Bool, true, false}
+use mathlib.Core.Bool.{true, false}
 use Prim.Native.Nat.{ℕ, _+_, _*_, _/_, _^_, _<_, _≤_}
-use native.Mathlib.Nat.{mul-lt-mul-of-pos-right, lt-of-mul-lt-mul-right, min-eq-left, add-div-right, div-div-eq-div-mul, div-lt-iff-lt-mul, div-mul-le-self, le-of-mul-le-mul-right}
+use native.Mathlib.Nat.{mul-lt-mul-of-pos-right, lt-of-mul-lt-mul-right, le-of-mul-le-mul-right, min-eq-left}
+use native.Mathlib.Nat.{add-div-right, div-div-eq-div-mul, div-lt-iff-lt-mul, div-mul-le-self}
 use native.Mathlib.Omega.{arith}
 use lib.Dec.{T, lt→ltb, lit≤}
-use lib.IntN.{ℤ, pos}
+use lib.IntN.{pos}
 use lib.Ieee.{Float, nan, inf, fin, binary32, up, down, lt, mul, ofBits, ofFields, odd, fits, toUnsigned}
 use lib.Ieee.Exact.{HasValue}
 use lib.Ieee.Fits.{down-pos}
@@ -19,7 +20,7 @@ use Rattle.ieee.specs.Whole.{wholeNear}
 use Rattle.ieee.proofs.Bounds.{within→bounded, bounded-finite, mul-bounded, reach-pow}
 use Rattle.ieee.proofs.Grid.{mul-pow-finite}
 use Rattle.ieee.proofs.Value.{scale-val}
-use Rattle.angle.specs.Size.{sizeIn}
+use Rattle.angle.specs.Sixteenths.{sixteenthsIn}
 
 -- ---- a float of a known value: its whole part, and that it is in the range of 64 bits
 module _ (N D : ℕ) (some : 0 < D) (small : N < 2 ^ 64 * D) where
@@ -71,11 +72,11 @@ record Size (x : Float) : Type 0 where
   d : ℕ
   some : 0 < d
   most : n ≤ 2 ^ 20 * d
-  is : sizeIn x ≡ wholeNear (16 * n) d
+  is : sixteenthsIn x ≡ wholeNear (16 * n) d
   product : HasValue (mul binary32 (abs x) thirtyTwo) false (n * 2 ^ 5) d
 
 size : (x : Float) → T (fits binary32 x) → Bounded (2 ^ 20) x → Size x
-unfolding sizeIn fits
+unfolding sixteenthsIn fits
 size nan f b = absurd b
 size (inf s) f b = absurd b
 size (fin s m e) f b = record {
@@ -90,7 +91,8 @@ size (fin s m e) f b = record {
 }
   where
     finite-product : Bounded (2 ^ 25) (mul binary32 (fin false m e) (fin false 1 (pos 5)))
-    finite-product = mul-bounded binary32 (2 ^ 20) 32 (2 ^ 25) (fin false m e) (fin false 1 (pos 5)) (reach-pow binary32 (2 ^ 25) 25 (lit≤ tt) (lit≤ tt)) b (lit≤ tt)
+    finite-product =
+        mul-bounded binary32 (2 ^ 20) 32 (2 ^ 25) (fin false m e) (fin false 1 (pos 5)) (reach-pow binary32 (2 ^ 25) 25 (lit≤ tt) (lit≤ tt)) b (lit≤ tt)
 
     scaled : mul binary32 (fin false m e) thirtyTwo ≡ scale 5 (fin false m e)
     scaled =
@@ -137,7 +139,7 @@ module _ (x y : Float) (f : T (fits binary32 x)) (inside : within numberLimit x 
     pub halves-few : halves ≤ 2 ^ 25
     halves-few = subst (λ (k : ℕ). k ≤ 2 ^ 25) (sym counted) (quotient-small (S .n) (S .d) (S .some) (S .most))
 
-    pub sixteenths-are : ((halves + 1) / 2 ≡ sizeIn x) × ((halves + 1) / 2 ≤ 2 ^ 24)
+    pub sixteenths-are : ((halves + 1) / 2 ≡ sixteenthsIn x) × ((halves + 1) / 2 ≤ 2 ^ 24)
     sixteenths-are =
         let few = halves-few in
         (ap (λ (k : ℕ). (k + 1) / 2) counted ∙ half-up (S .n) (S .d) (S .some) ∙ sym (S .is), omega (arith, few))

@@ -1,11 +1,10 @@
 -- Where an angle points, from the sixteenths of its size and its sign. Assumes nothing.
-use mathlib.Core.Path.{_≡_, refl, sym, ap, _∙_, subst}
+use mathlib.Core.Path.{_≡_, refl, sym, ap, _∙_}
 use mathlib.Core.Bool.{Bool, true, false, cond}
 use Prim.Native.Nat.{ℕ, zero, suc, _+_, _-_, _*_, _%_, _^_, _<_, _≤_}
 use native.Mathlib.Nat.{zero-mul}
 use native.Mathlib.Omega.{arith}
-use lib.Dec.{ltb}
-use lib.IntN.{ℤ, pos, negsuc, negℤ}
+use lib.IntN.{ℤ, pos, negℤ}
 use lib.Ieee.{Float, nan, inf, fin, up, down, lt, below, ofBits}
 use lib.Ieee.Exact.{HasValue}
 use lib.Ieee.Fits.{down-pos}
@@ -17,8 +16,7 @@ use Rattle.ieee.specs.Whole.{wholeNear}
 use Rattle.ieee.proofs.Whole.{near-exact}
 use Rattle.ieee.proofs.Comparison.{lt-at}
 use Rattle.ieee.proofs.Bounds.{within→bounded}
-use Rattle.angle.specs.Sixteenths.{sixteenthsOf, reduced, turnOf}
-use Rattle.angle.specs.Size.{sizeIn}
+use Rattle.angle.specs.Sixteenths.{sixteenthsIn, sixteenthsOf, reduced, turnOf}
 use Rattle.angle.proofs.Halves.{limit-value}
 
 -- ---- whole numbers
@@ -51,15 +49,15 @@ none a h = omega arith
 no-size : (a : ℕ) → a + 0 ≤ 0 → a ≡ 0
 no-size a h = omega arith
 
-pub turn-back : (x : Float) → Bounded (2 ^ 20) x → lt x zero32 ≡ true → (5760 - sizeIn x % 5760) % 5760 ≡ turnOf x
-unfolding sizeIn sixteenthsOf turnOf
+pub turn-back : (x : Float) → Bounded (2 ^ 20) x → lt x zero32 ≡ true → (5760 - sixteenthsIn x % 5760) % 5760 ≡ turnOf x
+unfolding sixteenthsIn sixteenthsOf turnOf
 turn-back nan b h = absurd b
 turn-back (inf s) b h = absurd b
 turn-back (fin true m e) b h = back (wholeNear (16 * (m * up e)) (down e))
 turn-back (fin false m e) b h = absurd (none (m * up e) (ltb-true (m * up e) 0 (sym (tested false m e) ∙ h)))
 
-pub turn-forth : (x : Float) → Bounded (2 ^ 20) x → lt x zero32 ≡ false → sizeIn x % 5760 ≡ turnOf x
-unfolding sizeIn sixteenthsOf turnOf
+pub turn-forth : (x : Float) → Bounded (2 ^ 20) x → lt x zero32 ≡ false → sixteenthsIn x % 5760 ≡ turnOf x
+unfolding sixteenthsIn sixteenthsOf turnOf
 turn-forth nan b h = absurd b
 turn-forth (inf s) b h = absurd b
 turn-forth (fin false m e) b h = forth (wholeNear (16 * (m * up e)) (down e))
@@ -69,7 +67,7 @@ turn-forth (fin true m e) b h =
     ap (λ (k : ℕ). k % 5760) w ∙ sym (ap (λ (k : ℕ). reduced (negℤ (pos k))) w ∙ sym (back 0))
 
 -- ---- as `turn` meets them
-module _ (x : Float) (inside : within numberLimit x ≡ true) (n : ℕ) (n-is : n ≡ sizeIn x) where
+module _ (x : Float) (inside : within numberLimit x ≡ true) (n : ℕ) (n-is : n ≡ sixteenthsIn x) where
   bounded : Bounded (2 ^ 20) x
   bounded = within→bounded (2 ^ 20) numberLimit x limit-value inside
 
@@ -86,7 +84,7 @@ zero-reduced true n e = ap (λ (k : ℕ). reduced (negℤ (pos k))) e
 zero-reduced false n e = ap (λ (k : ℕ). reduced (pos k)) e
 
 pub zero-turn : (x : Float) → isZero x ≡ true → turnOf x ≡ 0
-unfolding sixteenthsOf reduced turnOf
+unfolding sixteenthsIn sixteenthsOf reduced turnOf
 zero-turn nan h = refl
 zero-turn (inf s) h = refl
 zero-turn (fin s m e) h =

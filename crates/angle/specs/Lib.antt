@@ -1,4 +1,3 @@
 -- An angle in sixteenths of a degree, and its cosine and sine.
 pub mod Sixteenths
-pub mod Size
 pub mod Direction

@@ -4,11 +4,9 @@ ghost use mathlib.Core.Bool.{true};
 ghost use Prim.Native.Nat.{_≤_, _<_, _^_};
 ghost use Rattle.ieee.specs.Literal.{numberLimit};
 ghost use Rattle.ieee.specs.Limit.{within};
-ghost use Rattle.ieee.specs.Sign as Sign;
 ghost use lib.Ieee as Ieee;
 ghost use lib.Ieee.{binary32};
-ghost use Rattle.angle.specs.Sixteenths.{turnOf};
-ghost use Rattle.angle.specs.Size.{sizeIn};
+ghost use Rattle.angle.specs.Sixteenths.{sixteenthsIn, turnOf};
 ghost use Rattle.angle.specs.Direction.{directionOf};
 
 // The cosine and the sine of an angle.
@@ -21,7 +19,7 @@ pub struct Direction {
 // it is exact, and one more than its whole part has the half that is asked for.
 fn sixteenths(degrees: f32) -> u64
     requires { ⌜ within numberLimit degrees ≡ true ⌝ }
-    ensures { λ n. ⌜ (n ≡ sizeIn degrees) × (n ≤ 2 ^ 24) ⌝ }
+    ensures { λ n. ⌜ (n ≡ sixteenthsIn degrees) × (n ≤ 2 ^ 24) ⌝ }
 {
     let halves = std::num::truncating_f32_to_u64(float::abs(degrees) * 32.0);
     (halves + 1) / 2
@@ -37,7 +35,7 @@ pub fn turn(degrees: f32) -> usize
 }
 
 // The f32 nearest to an entry of the table of sines over 2^30, with a sign. The quotient is exact.
-fn entry_as(minus: bool, entry: u32) -> f32
+fn ratio(minus: bool, entry: u32) -> f32
     requires { ⌜ entry ≤ 2 ^ 30 ⌝ }
     ensures { λ r. ⌜ r ≡ Ieee.round binary32 minus entry (2 ^ 30) ⌝ }
 {
@@ -52,7 +50,7 @@ pub fn direction_at(turn: usize) -> Direction
 {
     let on = sine::onward(turn);
     Direction {
-        cosine: entry_as(2880 < on, sine::size_at(on)),
-        sine: entry_as(2880 < turn, sine::size_at(turn)),
+        cosine: ratio(2880 < on, sine::size_at(on)),
+        sine: ratio(2880 < turn, sine::size_at(turn)),
     }
 }

@@ -8,7 +8,7 @@ use native.Mathlib.Nat.{sub-zero, mul-one, le-trans, le-of-suc-le-suc, not-suc-l
 use native.Mathlib.Numerals.{add-one}
 use native.Mathlib.Omega.{arith}
 use lib.Dec.{T, eqb, lit≤, lit<}
-use lib.Ieee.{Float, nan, inf, fin, lt, le, eq, up, down, ofBits, ofFields}
+use lib.Ieee.{Float, nan, inf, fin, lt, le, up, down, ofBits, ofFields}
 use lib.Ieee.Bits.{is-true}
 use lib.Ieee.Exact.{HasValue}
 use lib.Ieee.Fits.{down-pos}

@@ -42,7 +42,7 @@ use Rattle.trim.specs.Trim.{offsetOf, placedAt, snapped, near, nearBoth, isWhol
 use Rattle.cut.specs.Cuts.{partOf}
 use Rattle.cut.specs.Calls.{isFiniteTrim, isTrimMode, cutMeasured, trimLengths}
 use Rattle.cut.specs.Answers.{lengthsAnswer, toldNumbers}
-use Rattle.angle.specs.Sixteenths.{sixteenthsOf, reduced, turnOf}
+use Rattle.angle.specs.Sixteenths.{sixteenthsIn, sixteenthsOf, reduced, turnOf}
 use Rattle.matrix.specs.Matrix.{concat, preTranslate, preScale, preRotate}
 use Rattle.repeater.specs.Repeater as repeater
 use Rattle.copies.specs.Calls.{hasTooMany, repeaterChecks, copyNumbers, allFinite, copyAnswer, transformAnswer}
@@ -254,14 +254,14 @@ rows-joined = refl
 
 -- the last copy is shifted by 20, and by 80
 shift-20 : transformAnswer (plate .repeater) 2 ≡ accepted (one32 ∷ zero32 ∷ zero32 ∷ one32 ∷ ofBits binary32 0x41a0_0000 ∷ zero32 ∷ zero32 ∷ [])
-unfolding ofBits allWithin lt le ofInt add sub mul div fma concat preTranslate preScale preRotate sixteenthsOf reduced turnOf
+unfolding ofBits allWithin lt le ofInt add sub mul div fma concat preTranslate preScale preRotate sixteenthsIn sixteenthsOf reduced turnOf
     repeater.copyCount repeater.stepScale repeater.stepPart repeater.stepMatrix repeater.stepTransform repeater.steps
     repeater.iterationTransform repeater.copyTransform repeater.opacityOf repeater.copyOpacity
     hasTooMany repeaterChecks copyNumbers allFinite copyAnswer transformAnswer
 shift-20 = refl
 
 shift-80 : transformAnswer (larger .repeater) 2 ≡ accepted (one32 ∷ zero32 ∷ zero32 ∷ one32 ∷ ofBits binary32 0x42a0_0000 ∷ zero32 ∷ zero32 ∷ [])
-unfolding enlarge ofBits allWithin lt le ofInt add sub mul div fma concat preTranslate preScale preRotate sixteenthsOf reduced turnOf
+unfolding enlarge ofBits allWithin lt le ofInt add sub mul div fma concat preTranslate preScale preRotate sixteenthsIn sixteenthsOf reduced turnOf
     repeater.copyCount repeater.stepScale repeater.stepPart repeater.stepMatrix repeater.stepTransform repeater.steps
     repeater.iterationTransform repeater.copyTransform repeater.opacityOf repeater.copyOpacity
     hasTooMany repeaterChecks copyNumbers allFinite copyAnswer transformAnswer

@@ -21,7 +21,7 @@ use Rattle.judge.specs.Lists as judge
 use Rattle.length.specs.Lists.{measureList}
 use Rattle.reach.specs.Reach as reach
 use Rattle.reach.specs.Reach.{lengthReaches}
-use Rattle.angle.specs.Sixteenths.{sixteenthsOf, reduced, turnOf}
+use Rattle.angle.specs.Sixteenths.{sixteenthsIn, sixteenthsOf, reduced, turnOf}
 use Rattle.matrix.specs.Matrix.{concat, preTranslate, preScale, preRotate}
 use Rattle.repeater.specs.Repeater as repeater
 use Rattle.copies.specs.Calls.{hasTooMany, repeaterChecks, copyNumbers, allFinite, copyAnswer, transformAnswer}
@@ -74,14 +74,14 @@ copyAt offset anchor position scale copy =
 
 large-scale : copyAt zero32 (ofBits binary32 0x4480_0000) zero32 (ofBits binary32 0x4948_0000) 9
     ≡ accepted (ofBits binary32 0x7a00_0000 ∷ zero32 ∷ zero32 ∷ one32 ∷ ofBits binary32 0xff00_0000 ∷ zero32 ∷ one32 ∷ [])
-unfolding ofBits allWithin lt le ofInt add sub mul div fma concat preTranslate preScale preRotate sixteenthsOf reduced turnOf
+unfolding ofBits allWithin lt le ofInt add sub mul div fma concat preTranslate preScale preRotate sixteenthsIn sixteenthsOf reduced turnOf
     repeater.copyCount repeater.stepScale repeater.stepPart repeater.stepMatrix repeater.stepTransform repeater.steps
     repeater.iterationTransform repeater.copyTransform repeater.opacityOf repeater.copyOpacity
     hasTooMany repeaterChecks copyNumbers allFinite copyAnswer transformAnswer
 large-scale = refl
 
 large-scale-enlarged : copyAt zero32 (ofBits binary32 0x4500_0000) zero32 (ofBits binary32 0x4948_0000) 9 ≡ refused NotFinite
-unfolding ofBits allWithin lt le ofInt add sub mul div fma concat preTranslate preScale preRotate sixteenthsOf reduced turnOf
+unfolding ofBits allWithin lt le ofInt add sub mul div fma concat preTranslate preScale preRotate sixteenthsIn sixteenthsOf reduced turnOf
     repeater.copyCount repeater.stepScale repeater.stepPart repeater.stepMatrix repeater.stepTransform repeater.steps
     repeater.iterationTransform repeater.copyTransform repeater.opacityOf repeater.copyOpacity
     hasTooMany repeaterChecks copyNumbers allFinite copyAnswer transformAnswer
@@ -90,7 +90,7 @@ large-scale-enlarged = refl
 -- ---- the anchor is multiplied with the position: around 8,192 a third of a step by 1 is rounded to 341 / 1,024, and a third of a step by 2 to 683 / 1,024, which is not twice that
 third-of-one : copyAt (ofBits binary32 0x3eaa_aaab) (ofBits binary32 0x4600_0000) one32 (ofBits binary32 0x42c8_0000) 0
     ≡ accepted (one32 ∷ zero32 ∷ zero32 ∷ one32 ∷ ofBits binary32 0x3eaa_8000 ∷ zero32 ∷ one32 ∷ [])
-unfolding ofBits allWithin lt le ofInt add sub mul div fma concat preTranslate preScale preRotate sixteenthsOf reduced turnOf
+unfolding ofBits allWithin lt le ofInt add sub mul div fma concat preTranslate preScale preRotate sixteenthsIn sixteenthsOf reduced turnOf
     repeater.copyCount repeater.stepScale repeater.stepPart repeater.stepMatrix repeater.stepTransform repeater.steps
     repeater.iterationTransform repeater.copyTransform repeater.opacityOf repeater.copyOpacity
     hasTooMany repeaterChecks copyNumbers allFinite copyAnswer transformAnswer
@@ -98,7 +98,7 @@ third-of-one = refl
 
 third-of-two : copyAt (ofBits binary32 0x3eaa_aaab) (ofBits binary32 0x4600_0000) (ofBits binary32 0x4000_0000) (ofBits binary32 0x42c8_0000) 0
     ≡ accepted (one32 ∷ zero32 ∷ zero32 ∷ one32 ∷ ofBits binary32 0x3f2a_c000 ∷ zero32 ∷ one32 ∷ [])
-unfolding ofBits allWithin lt le ofInt add sub mul div fma concat preTranslate preScale preRotate sixteenthsOf reduced turnOf
+unfolding ofBits allWithin lt le ofInt add sub mul div fma concat preTranslate preScale preRotate sixteenthsIn sixteenthsOf reduced turnOf
     repeater.copyCount repeater.stepScale repeater.stepPart repeater.stepMatrix repeater.stepTransform repeater.steps
     repeater.iterationTransform repeater.copyTransform repeater.opacityOf repeater.copyOpacity
     hasTooMany repeaterChecks copyNumbers allFinite copyAnswer transformAnswer

@@ -1,9 +1,7 @@
 -- What each way out of a function of this crate owes, as the code meets it: a premise for each test and for each call's result.
 -- Assumes nothing.
 use mathlib.Core.Path.{_≡_, refl, sym, ap, _∙_}
-use mathlib.Core.Bool.{true, false, cond}
 use Prim.Native.Nat.{ℕ}
-use lib.Dec.{eqb}
 use lib.Ieee.{Float, neg}
 use borrow.Author.Tests.{eq-eqb, ne-eqb}
 use Rattle.ieee.specs.Operators.{_⊕_, _⊗_}
@@ -24,7 +22,14 @@ pub concat-way : (m n : Matrix) → record {
 unfolding concat
 concat-way m n = refl
 
-pub translate-way : (m : Matrix) (x y : Float) → record { a = m .a; b = m .b; c = m .c; d = m .d; e = m .a ⊗ x ⊕ m .c ⊗ y ⊕ m .e; f = m .b ⊗ x ⊕ m .d ⊗ y ⊕ m .f } ≡ preTranslate m x y
+pub translate-way : (m : Matrix) (x y : Float) → record {
+  a = m .a;
+  b = m .b;
+  c = m .c;
+  d = m .d;
+  e = m .a ⊗ x ⊕ m .c ⊗ y ⊕ m .e;
+  f = m .b ⊗ x ⊕ m .d ⊗ y ⊕ m .f;
+} ≡ preTranslate m x y
 unfolding preTranslate
 translate-way m x y = refl
 
@@ -60,4 +65,3 @@ module _ (m : Matrix) (degrees : Float) (turn : ℕ) (turn-is : turn ≡ turnOf 
       r-is ∙ ap (rotated m) (w-is ∙ ap directionOf turn-is) ∙ rw (ne-eqb (turnOf degrees) 0 (λ e. h (turn-is ∙ e)))
 
 pub ruleset rotating = (rotate-still, rotate-turned)
-

@@ -23,7 +23,7 @@ use Rattle.length.specs.Lists.{measureList}
 use Rattle.trim.specs.Trim.{offsetOf, placedAt, snapped, near, nearBoth, isWhole, rangesBetween, lower, upper, normalizedTrimSegments, isFullTrimSegments}
 use Rattle.cut.specs.Calls.{isFiniteTrim, trimRanges}
 use Rattle.cut.specs.Answers.{rangesAnswer}
-use Rattle.angle.specs.Sixteenths.{sixteenthsOf, reduced, turnOf}
+use Rattle.angle.specs.Sixteenths.{sixteenthsIn, sixteenthsOf, reduced, turnOf}
 use Rattle.matrix.specs.Matrix.{concat, preTranslate, preScale, preRotate}
 use Rattle.repeater.specs.Repeater as repeater
 use Rattle.copies.specs.Order.{rising, falling, orderOf, copyOrder}
@@ -38,7 +38,8 @@ unfolding sub mul div le ofInt ofBits min max clamp fma remEuclid hypotOf isqrt 
     distance measure.startPen measure.moveTo measure.lineTo measure.close measure.step measure.steps measure.lengthAfter measure.pathLength
     sizeOfCode commandAt commandChecks readCommand inFront readList judgeList measureList
     offsetOf placedAt snapped near nearBoth isWhole rangesBetween lower upper normalizedTrimSegments isFullTrimSegments isFiniteTrim trimRanges rangesAnswer
-    concat preTranslate preScale preRotate sixteenthsOf reduced turnOf repeater.copyCount repeater.stepScale repeater.stepPart repeater.stepMatrix repeater.stepTransform
+    concat preTranslate preScale preRotate sixteenthsIn sixteenthsOf reduced turnOf
+    repeater.copyCount repeater.stepScale repeater.stepPart repeater.stepMatrix repeater.stepTransform
     repeater.steps repeater.iterationTransform repeater.copyTransform repeater.opacityOf repeater.copyOpacity
     rising falling orderOf copyOrder hasTooMany repeaterChecks orderAnswer copyNumbers allFinite copyAnswer transformAnswer
 all-answered = refl

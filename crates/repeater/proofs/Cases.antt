@@ -10,10 +10,11 @@ use Rattle.matrix.specs.declared.Matrix.{Matrix}
 use Rattle.repeater.specs.declared.RepeaterStyle.{RepeaterStyle}
 use Rattle.sine.specs.Table.{sines}
 use Rattle.sine.specs.Quadrants.{foldOf, sizeOf, minusOf, onOf}
-use Rattle.angle.specs.Sixteenths.{sixteenthsOf, reduced, turnOf}
+use Rattle.angle.specs.Sixteenths.{sixteenthsIn, sixteenthsOf, reduced, turnOf}
 use Rattle.angle.specs.Direction.{sineOf, cosineOf, directionOf}
 use Rattle.matrix.specs.Matrix.{concat, preTranslate, preScale, preRotate, rotated}
-use Rattle.repeater.specs.Repeater.{copyCount, stepScale, stepPart, stepMatrix, stepTransform, steps, iterationTransform, copyTransform, opacityOf, copyOpacity}
+use Rattle.repeater.specs.Repeater.{stepScale, stepPart, stepMatrix, stepTransform, steps, iterationTransform, copyTransform}
+use Rattle.repeater.specs.Repeater.{copyCount, opacityOf, copyOpacity}
 
 -- an f32 by its bit pattern
 abbrev f : ℕ → Float
@@ -71,7 +72,9 @@ cases =
     ∷ []
 
 cases-hold : map computed cases ≡ cases
-unfolding trailingZeros span climb size odd units round neg sum add sub mul div lt le isNan ofInt ofFields ofBits max fma concat preTranslate preScale preRotate sixteenthsOf reduced turnOf stepScale stepPart stepMatrix stepTransform steps iterationTransform copyTransform
+unfolding trailingZeros span climb size odd units round neg sum add sub mul div lt le isNan ofInt ofFields ofBits max fma
+    concat preTranslate preScale preRotate sixteenthsIn sixteenthsOf reduced turnOf
+    stepScale stepPart stepMatrix stepTransform steps iterationTransform copyTransform
 cases-hold = refl
 
 -- five copies in one place, each turned further
@@ -94,8 +97,9 @@ turnedCases =
     ∷ []
 
 turned-cases-hold : map computed turnedCases ≡ turnedCases
-unfolding trailingZeros span climb size odd units round neg sum add sub mul div lt le isNan ofInt ofFields ofBits max fma concat preTranslate preScale preRotate rotated
-    sixteenthsOf reduced turnOf sineOf cosineOf directionOf sines foldOf sizeOf minusOf onOf stepScale stepPart stepMatrix stepTransform steps iterationTransform copyTransform
+unfolding trailingZeros span climb size odd units round neg sum add sub mul div lt le isNan ofInt ofFields ofBits max fma
+    concat preTranslate preScale preRotate rotated sixteenthsIn sixteenthsOf reduced turnOf sineOf cosineOf directionOf sines foldOf sizeOf minusOf onOf
+    stepScale stepPart stepMatrix stepTransform steps iterationTransform copyTransform
 turned-cases-hold = refl
 
 -- three copies: 1, 0.5 and 0

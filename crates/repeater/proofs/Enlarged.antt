@@ -1,16 +1,18 @@
--- A repeater that scales by 100 per cent and does not rotate, with its position and its anchor on the grid of 1 / 1024, enlarged by a power of two: the matrix of each copy is a translation, and
--- its shift is multiplied, however many steps it takes. Opacities and the number of copies stay. Assumes nothing.
+-- A repeater that scales by 100 per cent and does not rotate, with its position and its anchor on the grid of 1 / 1024, enlarged by a power of two:
+-- the matrix of each copy is a translation, and its shift is multiplied, however many steps it takes. Opacities and the number of copies stay.
+-- Assumes nothing.
 use mathlib.Core.Path.{_≡_, refl, sym, ap, _∙_, subst}
 use mathlib.Core.Bool.{Bool, true, false, cond, false≢true}
-use Prim.Native.Nat.{ℕ, zero, suc, _+_, _-_, _*_, _/_, _%_, _^_, _≤_, _<_}
-use native.Mathlib.Nat.{le-trans, le-of-lt, lt-of-le-of-lt, add-zero, zero-mul, one-mul, mul-one, mul-comm, mul-assoc, mul-pos, mul-lt-mul-of-pos-right, le-of-mul-le-mul-right, div-add-mod', mod-lt}
+use Prim.Native.Nat.{ℕ, zero, suc, _+_, _-_, _*_, _/_, _^_, _≤_, _<_}
+use native.Mathlib.Nat.{le-of-lt, add-zero, zero-mul, one-mul, mul-comm, mul-assoc, mul-pos}
 use native.Mathlib.Omega.{arith}
-use borrow.Author.Tests.{ltb-true, le-ltb}
+use borrow.Author.Tests.{ltb-true}
 use lib.Dec.{T, lit≤, lit<}
 use lib.IntN.{ℤ, pos}
 use lib.Pow.{pow-pos}
-use lib.Ieee.{Float, nan, inf, fin, up, down, unlike, binary32, fits, span, climb, size, odd, units, round, neg, sum, add, sub, mul, div, lt, eq, isNan, ofInt, ofFields, ofBits}
-use lib.Ieee.Exact.{HasValue, round-exact}
+use lib.Ieee.{Float, nan, inf, fin, up, down, unlike, binary32, fits, span, climb, size, odd, units, round}
+use lib.Ieee.{neg, sum, add, sub, mul, div, lt, eq, isNan, ofInt, ofFields, ofBits}
+use lib.Ieee.Exact.{HasValue}
 use lib.Ieee.Fits.{sub-fits, down-pos}
 use lib.Ieee.Scale.{finite}
 use Rattle.ieee.specs.Literal.{zero32, one32, hundred32, epsilon32}
@@ -33,9 +35,11 @@ use Rattle.angle.proofs.Reduced.{zero-turn}
 use Rattle.matrix.specs.declared.Matrix.{Matrix}
 use Rattle.matrix.proofs.Ways.{rotate-none}
 use Rattle.repeater.proofs.Part.{part-bounded}
+use Rattle.repeater.proofs.Ways.{step-matrix-is}
 use Rattle.repeater.specs.declared.RepeaterStyle.{RepeaterStyle}
 use Rattle.matrix.specs.Matrix.{identity, concat, preTranslate, preScale}
-use Rattle.repeater.specs.Repeater.{leastScale, mostOffset, copyCount, stepScale, direction, stepPart, stepMatrix, stepTransform, steps, iterationTransform, copyTransform, opacityOf, copyOpacity}
+use Rattle.repeater.specs.Repeater.{leastScale, mostOffset, copyCount, opacityOf, copyOpacity}
+use Rattle.repeater.specs.Repeater.{stepScale, direction, stepPart, stepMatrix, stepTransform, steps, iterationTransform, copyTransform}
 
 -- ---- the two repeaters. What no definition here reads, the mode, is left free
 pub record RepeaterTwin (k : ℕ) (r r' : RepeaterStyle) : Type 0 where
@@ -163,9 +167,10 @@ step-is : (x y ax ay degrees : Float) → turnOf degrees ≡ 0
     → stepMatrix x y ax ay degrees one32 one32
     ≡ translation (along one32 zero32 (neg ax) (neg ay) (along one32 zero32 ax ay (along one32 zero32 x y zero32)))
     (along zero32 one32 (neg ax) (neg ay) (along zero32 one32 ax ay (along zero32 one32 x y zero32)))
-unfolding stepMatrix preTranslate preScale
+unfolding preTranslate preScale
 step-is x y ax ay degrees still =
-    ap (λ (z : Matrix). preTranslate (preScale z one32 one32) (neg ax) (neg ay)) (rotate-none (preTranslate (preTranslate identity x y) ax ay) degrees still)
+    step-matrix-is x y ax ay degrees one32 one32
+    ∙ ap (λ (z : Matrix). preTranslate (preScale z one32 one32) (neg ax) (neg ay)) (rotate-none (preTranslate (preTranslate identity x y) ax ay) degrees still)
     ∙ (λ i. record {
       a = one-one i;
       b = zero-one i;
@@ -218,7 +223,8 @@ module _ {k : ℕ} (K : k ≤ 6) where
         (along-twin (omega arith) (twin-weaken k 10 13 56 14 ax ax' (lit≤ tt) (lit≤ tt) A) (twin-weaken k 10 13 56 14 ay ay' (lit≤ tt) (lit≤ tt) B) (along-twin (omega arith) X Y (zero-twin k 56 14)))
 
   -- ---- a step
-  part-twin : {p p' percent : Float} (inverse : Bool) → On 46 0 percent → Twin k 10 13 p p' → Twin k 56 13 (stepPart p percent inverse) (stepPart p' percent inverse)
+  part-twin : {p p' percent : Float} (inverse : Bool) → On 46 0 percent → Twin k 10 13 p p'
+      → Twin k 56 13 (stepPart p percent inverse) (stepPart p' percent inverse)
   unfolding stepPart
   part-twin {p} {p'} {percent} inverse P X =
       twin-mul binary32 k 10 13 46 0 (p ⊗ direction inverse) (p' ⊗ direction inverse) percent (lit≤ tt) (omega arith)
@@ -241,9 +247,11 @@ module _ {k : ℕ} (K : k ≤ 6) where
         (along one32 zero32 (neg (r' .anchor .x)) (neg (r' .anchor .y)) (along one32 zero32 (r' .anchor .x) (r' .anchor .y) (along one32 zero32 x' y' zero32)))
         (along zero32 one32 (neg (r .anchor .x)) (neg (r .anchor .y)) (along zero32 one32 (r .anchor .x) (r .anchor .y) (along zero32 one32 x y zero32)))
         (along zero32 one32 (neg (r' .anchor .x)) (neg (r' .anchor .y)) (along zero32 one32 (r' .anchor .x) (r' .anchor .y) (along zero32 one32 x' y' zero32)))
-        ((λ i. stepMatrix x y (r .anchor .x) (r .anchor .y) t (scale-one (r .scale .x) percent inverse (R .wide-scale) P i) (scale-one (r .scale .y) percent inverse (R .high-scale) P i))
+        ((λ i. stepMatrix x y (r .anchor .x) (r .anchor .y) t
+        (scale-one (r .scale .x) percent inverse (R .wide-scale) P i) (scale-one (r .scale .y) percent inverse (R .high-scale) P i))
         ∙ step-is x y (r .anchor .x) (r .anchor .y) t (part-still (r .rotation) percent inverse (R .still) P))
-        ((λ i. stepMatrix x' y' (r' .anchor .x) (r' .anchor .y) t' (scale-one (r' .scale .x) percent inverse (R .wide-scale') P i) (scale-one (r' .scale .y) percent inverse (R .high-scale') P i))
+        ((λ i. stepMatrix x' y' (r' .anchor .x) (r' .anchor .y) t'
+        (scale-one (r' .scale .x) percent inverse (R .wide-scale') P i) (scale-one (r' .scale .y) percent inverse (R .high-scale') P i))
         ∙ step-is x' y' (r' .anchor .x) (r' .anchor .y) t' (part-still (r' .rotation) percent inverse (R .still') P))
         (shift-twin one-weight zero-weight X Y (R .ax-twin) (R .ay-twin))
         (shift-twin zero-weight one-weight X Y (R .ax-twin) (R .ay-twin))
@@ -276,7 +284,9 @@ part-on (fin false (suc m) e) t Y h = big-on binary32 false m e 23 0 t (le-of-lt
 
 -- ---- a copy
 within-on : (x : Float) → Bounded 8192 x → lt epsilon32 (abs x ⊖ ofInt binary32 (pos (countDown (abs x)))) ≡ true → On 46 0 (abs x ⊖ ofInt binary32 (pos (countDown (abs x))))
-within-on x X h = let y = ofInt binary32 (pos (countDown (abs x))) in part-on (abs x ⊖ y) (sub-fits binary32 (abs x) y) (part-bounded x (bounded-weaken 8192 (2 ^ 20) x (lit≤ tt) X)) h
+within-on x X h =
+    let y = ofInt binary32 (pos (countDown (abs x))) in
+    part-on (abs x ⊖ y) (sub-fits binary32 (abs x) y) (part-bounded x (bounded-weaken 8192 (2 ^ 20) x (lit≤ tt) X)) h
 
 whole-on : On 46 0 one32
 whole-on = weaken 0 0 46 0 one32 (lit≤ tt) (lit≤ tt) one-weight

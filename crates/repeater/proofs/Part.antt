@@ -26,7 +26,8 @@ whole-value : (n c : ℕ) → n ≤ 2 ^ 20 → HasValue (ofInt binary32 (pos n))
 unfolding ofInt
 whole-value n c l =
     rescale (round binary32 false n 1) false n 1 (n * c) c (lit< tt) (mul-one (n * c))
-    (round-exact binary32 false n 1 n 149 (lit< tt) (lt-of-le-of-lt l (lit< tt)) (mul-lt-mul-of-pos-right {n = 2 ^ 128} (lt-of-le-of-lt l (lit< tt)) (pow-pos 149)) (sym (mul-one (n * 2 ^ 149))))
+    (round-exact binary32 false n 1 n 149 (lit< tt) (lt-of-le-of-lt l (lit< tt))
+    (mul-lt-mul-of-pos-right {n = 2 ^ 128} (lt-of-le-of-lt l (lit< tt)) (pow-pos 149)) (sym (mul-one (n * 2 ^ 149))))
 
 sum-minus : (a b c : ℕ) → b ≤ a → sum binary32 false a true b c ≡ round binary32 false (a - b) c
 unfolding sum
@@ -50,9 +51,11 @@ part-bounded (fin s m e) X =
     subst (Bounded 1)
     (sym
     (sub-is binary32 (fin false m e) y
-    ∙ add-at binary32 (fin false m e) (neg y) false true a (n * down e) (down e) (down-pos e) (refl, refl) (neg-val y false (n * down e) (down e) (whole-value n (down e) few))
+    ∙ add-at binary32 (fin false m e) (neg y) false true a (n * down e) (down e) (down-pos e) (refl, refl)
+    (neg-val y false (n * down e) (down e) (whole-value n (down e) few))
     ∙ sum-minus a (n * down e) (down e) low))
-    (round-bounded binary32 false (a - n * down e) (down e) 1 1 (down-pos e) (left-over (n * down e) (a % down e) a (down e) (div-add-mod' a (down e)) (mod-lt a (down-pos e))) (reach-whole binary32 1 (lit< tt)))
+    (round-bounded binary32 false (a - n * down e) (down e) 1 1 (down-pos e)
+    (left-over (n * down e) (a % down e) a (down e) (div-add-mod' a (down e)) (mod-lt a (down-pos e))) (reach-whole binary32 1 (lit< tt)))
 
 -- ---- an angle
 limit-value : HasValue numberLimit false (2 ^ 20) 1
@@ -71,7 +74,8 @@ turn-inside rotation percent inverse h P =
     let reach = reach-pow binary32 (2 ^ 20 * 1) 20 (lit≤ tt) (lit≤ tt) in
     bounded→within (2 ^ 20) numberLimit (stepPart rotation percent inverse) limit-value
     (mul-bounded binary32 (2 ^ 20) 1 (2 ^ 20) _ percent reach
-    (mul-bounded binary32 (2 ^ 20) 1 (2 ^ 20) rotation (direction inverse) reach (within→bounded (2 ^ 20) numberLimit rotation limit-value h) (direction-bounded inverse)) P)
+    (mul-bounded binary32 (2 ^ 20) 1 (2 ^ 20) rotation (direction inverse) reach (within→bounded (2 ^ 20) numberLimit rotation limit-value h)
+    (direction-bounded inverse)) P)
 
 one-bounded : Bounded 1 one32
 unfolding ofBits

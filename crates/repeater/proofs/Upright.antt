@@ -51,7 +51,10 @@ concat-same m n b-is c-is b-zero c-zero ma md na nd a-plus d-plus =
     λ i. record { a = A i; b = B i; c = C i; d = D i; e = m .a ⊗ n .e ⊕ sym c-is i ⊗ n .f ⊕ m .e; f = sym b-is i ⊗ n .e ⊕ m .d ⊗ n .f ⊕ m .f }
   where
     A : m .a ⊗ n .a ≡ m .a ⊗ n .a ⊕ m .c ⊗ n .b
-    A = sym (add-zero-right binary32 (m .a ⊗ n .a) (m .c ⊗ n .b) (mul-fits binary32 (m .a) (n .a)) a-plus (mul-zero-right binary32 (m .c) (n .b) (plus-finite (m .c) (subst Plus (sym c-is) zero-plus)) b-zero))
+    A =
+        sym
+        (add-zero-right binary32 (m .a ⊗ n .a) (m .c ⊗ n .b) (mul-fits binary32 (m .a) (n .a)) a-plus
+        (mul-zero-right binary32 (m .c) (n .b) (plus-finite (m .c) (subst Plus (sym c-is) zero-plus)) b-zero))
 
     B : zero32 ≡ m .b ⊗ n .a ⊕ m .d ⊗ n .b
     B =
@@ -66,7 +69,10 @@ concat-same m n b-is c-is b-zero c-zero ma md na nd a-plus d-plus =
         ∙ add-zero-left binary32 (m .a ⊗ n .c) zero32 zero-single zero-plus (mul-zero-right binary32 (m .a) (n .c) (plus-finite (m .a) ma) c-zero))
 
     D : m .d ⊗ n .d ≡ m .b ⊗ n .c ⊕ m .d ⊗ n .d
-    D = sym (add-zero-left binary32 (m .b ⊗ n .c) (m .d ⊗ n .d) (mul-fits binary32 (m .d) (n .d)) d-plus (mul-zero-right binary32 (m .b) (n .c) (plus-finite (m .b) (subst Plus (sym b-is) zero-plus)) c-zero))
+    D =
+        sym
+        (add-zero-left binary32 (m .b ⊗ n .c) (m .d ⊗ n .d) (mul-fits binary32 (m .d) (n .d)) d-plus
+        (mul-zero-right binary32 (m .b) (n .c) (plus-finite (m .b) (subst Plus (sym b-is) zero-plus)) c-zero))
 
 -- ---- steps
 record Kept (n : ℕ) (step : Matrix) : Type 0 where

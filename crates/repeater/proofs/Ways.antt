@@ -22,7 +22,8 @@ use Rattle.ieee.specs.Fused.{fma}
 use Rattle.matrix.specs.declared.Matrix.{Matrix}
 use Rattle.repeater.specs.declared.RepeaterStyle.{RepeaterStyle}
 use Rattle.matrix.specs.Matrix.{identity, concat, preTranslate, preScale, preRotate}
-use Rattle.repeater.specs.Repeater.{leastScale, mostOffset, copyCount, stepScale, direction, stepPart, stepMatrix, stepTransform, steps, iterationTransform, copyTransform, opacityOf, copyOpacity}
+use Rattle.repeater.specs.Repeater.{leastScale, mostOffset, copyCount, opacityOf, copyOpacity}
+use Rattle.repeater.specs.Repeater.{stepScale, direction, stepPart, stepMatrix, stepTransform, steps, iterationTransform, copyTransform}
 use Rattle.repeater.specs.Upright.{isUpright, uprightConcat, uprightSteps}
 use Rattle.repeater.proofs.Upright.{upright-steps}
 use Rattle.repeater.proofs.Part.{part-bounded, turn-inside, whole-turn-inside}
@@ -47,17 +48,24 @@ pub part-way : (amount percent : Float) (inverse : Bool) (way : Float) → way �
 unfolding stepPart
 part-way amount percent inverse way e = ap (λ (w : Float). amount ⊗ w ⊗ percent) e
 
+pub step-matrix-is : (x y ax ay degrees sx sy : Float) → stepMatrix x y ax ay degrees sx sy
+    ≡ preTranslate (preScale (preRotate (preTranslate (preTranslate identity x y) ax ay) degrees) sx sy) (neg ax) (neg ay)
+unfolding stepMatrix
+step-matrix-is x y ax ay degrees sx sy = refl
+
 pub matrix-way : (x y ax ay degrees sx sy : Float) (i moved anchored turned scaled m : Matrix)
     → m ≡ preTranslate scaled (neg ax) (neg ay)
     → scaled ≡ preScale turned sx sy → turned ≡ preRotate anchored degrees → anchored ≡ preTranslate moved ax ay → moved ≡ preTranslate i x y → i ≡ identity
     → m ≡ stepMatrix x y ax ay degrees sx sy
-unfolding stepMatrix
 matrix-way x y ax ay degrees sx sy i moved anchored turned scaled m m-is scaled-is turned-is anchored-is moved-is i-is =
     m-is
     ∙ ap (λ (z : Matrix). preTranslate z (neg ax) (neg ay))
     (scaled-is
     ∙ ap (λ (z : Matrix). preScale z sx sy)
-    (turned-is ∙ ap (λ (z : Matrix). preRotate z degrees) (anchored-is ∙ ap (λ (z : Matrix). preTranslate z ax ay) (moved-is ∙ ap (λ (z : Matrix). preTranslate z x y) i-is))))
+    (turned-is
+    ∙ ap (λ (z : Matrix). preRotate z degrees)
+    (anchored-is ∙ ap (λ (z : Matrix). preTranslate z ax ay) (moved-is ∙ ap (λ (z : Matrix). preTranslate z x y) i-is))))
+    ∙ sym (step-matrix-is x y ax ay degrees sx sy)
 
 pub step-way : (r : RepeaterStyle) (percent : Float) (inverse : Bool) (x y degrees sx sy : Float) (m : Matrix)
     → m ≡ stepMatrix x y (r .anchor .x) (r .anchor .y) degrees sx sy

@@ -12,8 +12,8 @@ use Rattle.ieee.specs.Choice.{max}
 use Rattle.ieee.specs.Fused.{fma}
 use Rattle.count.specs.Count.{countDown, countUp}
 use Rattle.matrix.specs.declared.Matrix.{Matrix}
-use Rattle.repeater.specs.declared.RepeaterStyle.{RepeaterStyle}
 use Rattle.matrix.specs.Matrix.{identity, concat, preTranslate, preScale, preRotate}
+use Rattle.repeater.specs.declared.RepeaterStyle.{RepeaterStyle}
 
 -- how many copies there are: the ceiling, not below 0
 unfoldable pub copyCount : RepeaterStyle → ℕ

@@ -52,7 +52,15 @@ fn step_part(amount: f32, percent: f32, inverse: bool) -> f32
 }
 
 // A shift, then a rotation and a scaling around an anchor.
-fn step_matrix(x: f32, y: f32, anchor_x: f32, anchor_y: f32, degrees: f32, scale_x: f32, scale_y: f32) -> Matrix
+fn step_matrix(
+    x: f32,
+    y: f32,
+    anchor_x: f32,
+    anchor_y: f32,
+    degrees: f32,
+    scale_x: f32,
+    scale_y: f32,
+) -> Matrix
     requires { ⌜ within numberLimit degrees ≡ true ⌝ }
     ensures { λ r. ⌜ r ≡ spec.stepMatrix x y «anchor_x» «anchor_y» degrees «scale_x» «scale_y» ⌝ }
 {

@@ -1,4 +1,4 @@
--- What is promised of the table and of the turn: 'rising order', 'nearness to the series' and 'the sum of squares of sine and cosine'.
+-- What is promised of the table and of every angle: 'rising order', 'nearness to the series' and 'the sum of squares of sine and cosine'.
 -- What is promised of pi's bracket is `PiBracketed`, beside it in Nearest. Definitions only.
 use mathlib.Core.Path.{_≡_}
 use mathlib.Core.Bool.{cond}
@@ -28,10 +28,10 @@ TableNearest = (k : ℕ) → k ≤ 1440 → Nearest k (entry k) 0
 abbrev pub TableSquares : Type 0
 TableSquares = (k : ℕ) → k ≤ 1440 → Squares (entry k) (entry (1440 - k))
 
--- at each angle of the turn the entry, with its sign, is nearest to 2^30 times the sine there
+-- at each reduced angle the entry, with its sign, is nearest to 2^30 times the sine there
 abbrev pub TurnNearest : Type 0
 TurnNearest = (turn : ℕ) → turn < 5760 → Nearest turn (cond (minusOf turn) 0 (sizeOf turn)) (cond (minusOf turn) (sizeOf turn) 0)
 
--- the squares of sine and cosine at each angle of the turn, where the cosine is the sine 90 degrees on
+-- the squares of sine and cosine at each reduced angle, where the cosine is the sine 90 degrees on
 abbrev pub TurnSquares : Type 0
 TurnSquares = (turn : ℕ) → turn < 5760 → Squares (sizeOf turn) (sizeOf (onOf turn))

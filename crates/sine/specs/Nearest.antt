@@ -25,7 +25,7 @@ PiBracketed = (n : ℕ) → 17 ≤ n → Above 0 0 1 piLow piUnit n × Below 0 0
 
 -- The whole number u - v is nearest to 2^30 sin (k/16 degrees): whichever fraction p/q of the bracket is taken for pi,
 -- 2^30 times each sum of the series at k·p/(2880·q), from the one to term 17 on, is above u - v - 1/2 and below u - v + 1/2.
--- (To term 15 the sums are not yet that close near 360 degrees.)
+-- (The sum to term 15 is not that close yet near 360 degrees. That to term 16 is; the law goes by pairs of an added and a taken term.)
 unfoldable pub Nearest : ℕ → ℕ → ℕ → Type 0
 Nearest k u v =
     (p q : ℕ) → IsPi p q → (n : ℕ) → 17 ≤ n →

@@ -1,4 +1,4 @@
--- The table at every angle of the turn, in sixteenths of a degree 'reduced by 360': whole numbers from 0 to 5,759. Definitions only.
+-- The table at every angle 'reduced by 360', a turn for short: a whole number of sixteenths of a degree from 0 to 5,759. Definitions only.
 use mathlib.Core.Bool.{Bool, cond}
 use Prim.Native.Nat.{ℕ, _+_, _-_}
 use lib.Dec.{ltb}

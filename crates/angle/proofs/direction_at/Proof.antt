@@ -10,14 +10,14 @@ onward-requires c κs = search needs
 size-at-requires : tie.Need-size-at-requires
 size-at-requires c κs = search needs
 
-entry-as-requires : tie.Need-entry-as-requires
-entry-as-requires c κs = search needs
+ratio-requires : tie.Need-ratio-requires
+ratio-requires c κs = search needs
 
 size-at-requires-2 : tie.Need-size-at-requires-2
 size-at-requires-2 c κs = search needs
 
-entry-as-requires-2 : tie.Need-entry-as-requires-2
-entry-as-requires-2 c κs = search needs
+ratio-requires-2 : tie.Need-ratio-requires-2
+ratio-requires-2 c κs = search needs
 
 returns : tie.Need-returns
 returns c = search (needs, direction-way)
@@ -28,7 +28,7 @@ direction-at-spec =
     (tie.spec
     onward-requires
     size-at-requires
-    entry-as-requires
+    ratio-requires
     size-at-requires-2
-    entry-as-requires-2
+    ratio-requires-2
     returns)

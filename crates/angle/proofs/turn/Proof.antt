@@ -11,10 +11,14 @@ sub-result : tie.Need-sub-result
 sub-result c = search needs
 
 returns : tie.Need-returns
-returns c = turned-back (c .before .before .args .degrees) (c .before .before .pre) (c .before .sixteenths .result) (c .before .sixteenths .ensures .0) (c .if1 .taken)
+returns c =
+    turned-back (c .before .before .args .degrees) (c .before .before .pre) (c .before .sixteenths .result) (c .before .sixteenths .ensures .0)
+    (c .if1 .taken)
 
 returns-2 : tie.Need-returns-2
-returns-2 c = turned-forth (c .before .before .args .degrees) (c .before .before .pre) (c .before .sixteenths .result) (c .before .sixteenths .ensures .0) (c .if1 .left)
+returns-2 c =
+    turned-forth (c .before .before .args .degrees) (c .before .before .pre) (c .before .sixteenths .result) (c .before .sixteenths .ensures .0)
+    (c .if1 .left)
 
 pub turn-spec : {M : Type 1} → statement M
 turn-spec = tie.close (tie.spec sixteenths-requires sub-result returns returns-2)

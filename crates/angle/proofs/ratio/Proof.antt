@@ -1,8 +1,8 @@
--- `angle::entry_as` meets its contract. Assumes nothing.
+-- `angle::ratio` meets its contract. Assumes nothing.
 use borrow.Author.Needs.{needs}
 use Rattle.angle.proofs.Entries.{entries}
-use Rattle.angle.proofs.entry_as.Statement.{statement}
-use Rattle.angle.proofs.entry_as.Tie as tie
+use Rattle.angle.proofs.ratio.Statement.{statement}
+use Rattle.angle.proofs.ratio.Tie as tie
 
 nearest-u32-to-f32-requires : tie.Need-nearest-u32-to-f32-requires
 nearest-u32-to-f32-requires c κs = search needs
@@ -13,5 +13,5 @@ returns c = search (needs, entries)
 returns-2 : tie.Need-returns-2
 returns-2 c = search (needs, entries)
 
-pub entry-as-spec : {M : Type 1} → statement M
-entry-as-spec = tie.close (tie.spec nearest-u32-to-f32-requires returns returns-2)
+pub ratio-spec : {M : Type 1} → statement M
+ratio-spec = tie.close (tie.spec nearest-u32-to-f32-requires returns returns-2)
