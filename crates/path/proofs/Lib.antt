@@ -4,4 +4,6 @@ pub mod Enlarged
 pub mod Counts
 pub mod Sound
 pub mod Single
+pub mod Segment
+pub mod Between
 pub mod Ways

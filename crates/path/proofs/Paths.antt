@@ -5,14 +5,14 @@ use mathlib.Core.List.{List, [], _∷_, _++_}
 use Prim.Native.Nat.{ℕ, zero, suc, _+_, _-_, _*_, _≤_, _<_}
 use native.Mathlib.Nat.{not-suc-le-zero, le-of-suc-le-suc}
 use native.Mathlib.Omega.{arith}
-use lib.ListN.{length, getD, drop, length-append, List·getD-append, List·getD-eq-default}
+use lib.ListN.{length, getD, drop, length-append, List·getD-append}
 use lib.Seq.{getD-drop, getD-append-seam}
 use lib.Ieee.{Float, nan}
 use lib.Dec.{eqb}
 use borrow.Author.Tests.{ne-eqb}
 use Rattle.path.specs.Path.{pathCommands, bezierCount}
 use Rattle.command.specs.declared.PathCommand.{PathCommand}
-use Rattle.command.specs.declared.PathCommand.the-variants.{Move, Line, Close}
+use Rattle.command.specs.declared.PathCommand.the-variants.{Close}
 use Rattle.path.specs.declared.BezierVertex.{BezierVertex}
 use Rattle.path.specs.Path.{vertexAt, verticesOf, bezierSegment, bezierSegments, bezierPath}
 
@@ -59,14 +59,32 @@ segments-at a [] j d h = absurd (not-suc-le-zero h)
 segments-at a (b ∷ bs) zero d h = refl
 segments-at a (b ∷ bs) (suc j) d h = segments-at b bs j d (le-of-suc-le-suc h)
 
+-- the last of a vertex and those after it
+pub lastOf : BezierVertex → List BezierVertex → BezierVertex
+lastOf a [] = a
+lastOf a (b ∷ bs) = lastOf b bs
+
+pub last-vertex : (v : List Float) (n : ℕ) → lastOf (vertexAt v 0) (verticesOf n (drop 6 v)) ≡ vertexAt v n
+unfolding verticesOf lastOf
+last-vertex v zero = refl
+last-vertex v (suc n) = last-vertex (drop 6 v) n ∙ shift v n
+
+-- one vertex more is one segment more, from the last
+pub segments-more : (a : BezierVertex) (bs : List BezierVertex) (c : BezierVertex)
+    → bezierSegments a (bs ++ c ∷ []) ≡ bezierSegments a bs ++ bezierSegment (lastOf a bs) c ∷ []
+unfolding bezierSegments lastOf
+segments-more a [] c = refl
+segments-more a (b ∷ bs) c = ap (λ (cs : List PathCommand). bezierSegment a b ∷ cs) (segments-more b bs c)
+
 -- ---- the path
 
-pub path-start : (c : Bool) (n : ℕ) (v : List Float) → 0 < n → getD (bezierPath c (verticesOf n v)) 0 Close ≡ Move (vertexAt v 0 .x) (vertexAt v 0 .y)
-unfolding bezierPath verticesOf
-path-start c zero v h = absurd (not-suc-le-zero h)
-path-start c (suc zero) v h = refl
-path-start false (suc (suc n)) v h = refl
-path-start true (suc (suc n)) v h = refl
+pub path-length : (c : Bool) (n : ℕ) (v : List Float) → 1 < n → length (bezierPath c (verticesOf n v)) ≡ cond c (n + 2) n
+unfolding verticesOf bezierPath
+path-length c zero v h = absurd (not-suc-le-zero h)
+path-length c (suc zero) v h = absurd (not-suc-le-zero (le-of-suc-le-suc h))
+path-length false (suc (suc m)) v h = rw (segments-length, vertices-length m (drop 6 (drop 6 v)))
+path-length true (suc (suc m)) v h =
+    rw (length-append, segments-length, length-append, vertices-length m (drop 6 (drop 6 v))) (omega arith)
 
 inner : (c : Bool) (a b : BezierVertex) (bs : List BezierVertex) (j : ℕ) (d : BezierVertex) → j < length (b ∷ bs)
     → getD (bezierPath c (a ∷ (b ∷ bs))) (suc j) Close ≡ bezierSegment (getD (a ∷ (b ∷ bs)) j d) (getD (b ∷ bs) j d)
@@ -86,13 +104,6 @@ back a b bs d =
     List·getD-append (bezierSegments a ((b ∷ bs) ++ a ∷ [])) (Close ∷ []) Close (length (b ∷ bs)) (rw segments-length more)
     ∙ segments-at a ((b ∷ bs) ++ a ∷ []) (length (b ∷ bs)) d more
     ∙ ap₂ bezierSegment (List·getD-append (a ∷ (b ∷ bs)) (a ∷ []) d (length (b ∷ bs)) (omega arith)) (getD-append-seam (b ∷ bs) a [] d)
-
--- past the segments there is the close, and past the end the close again
-tail : (xs : List PathCommand) (j : ℕ) → length xs ≤ j → getD (xs ++ Close ∷ []) j Close ≡ Close
-tail [] zero h = refl
-tail [] (suc j) h = refl
-tail (x ∷ xs) zero h = absurd (not-suc-le-zero h)
-tail (x ∷ xs) (suc j) h = tail xs j (le-of-suc-le-suc h)
 
 pub path-inner : (c : Bool) (n : ℕ) (v : List Float) (k : ℕ) → (k ≡ 0 → ⊥) → k < n
     → getD (bezierPath c (verticesOf n v)) k Close ≡ bezierSegment (vertexAt v (k - 1)) (vertexAt v k)
@@ -114,37 +125,6 @@ path-back (suc (suc m)) v h =
     let l : length (verticesOf m (drop 6 (drop 6 v))) ≡ m = vertices-length m (drop 6 (drop 6 v)) in
     rw l at (back (vertexAt v 0) (vertexAt (drop 6 v) 0) (verticesOf m (drop 6 (drop 6 v))) (vertexAt v 0))
     ∙ ap₂ bezierSegment (vertices-at (suc (suc m)) v (suc m) (vertexAt v 0) (omega arith) ∙ ap (λ (i : ℕ). vertexAt v i) (omega arith)) refl
-
-pub path-length : (c : Bool) (n : ℕ) (v : List Float) → 1 < n → length (bezierPath c (verticesOf n v)) ≡ cond c (n + 2) n
-unfolding verticesOf bezierPath
-path-length c zero v h = absurd (not-suc-le-zero h)
-path-length c (suc zero) v h = absurd (not-suc-le-zero (le-of-suc-le-suc h))
-path-length false (suc (suc m)) v h = rw (segments-length, vertices-length m (drop 6 (drop 6 v)))
-path-length true (suc (suc m)) v h =
-    rw (length-append, segments-length, length-append, vertices-length m (drop 6 (drop 6 v))) (omega arith)
-
-pub path-past : (c : Bool) (n : ℕ) (v : List Float) (k : ℕ) → 1 < n → n < k → getD (bezierPath c (verticesOf n v)) k Close ≡ Close
-unfolding verticesOf bezierPath
-path-past c n v zero h p = absurd (not-suc-le-zero p)
-path-past c zero v (suc j) h p = absurd (not-suc-le-zero h)
-path-past c (suc zero) v (suc j) h p = absurd (not-suc-le-zero (le-of-suc-le-suc h))
-path-past false (suc (suc m)) v (suc j) h p = List·getD-eq-default (bezierSegments (vertexAt v 0) (vertexAt (drop 6 v) 0 ∷ verticesOf m (drop 6 (drop 6 v)))) Close {n = j} (rw (segments-length, vertices-length m (drop 6 (drop 6 v))) (omega arith))
-path-past true (suc (suc m)) v (suc j) h p = tail (bezierSegments (vertexAt v 0) ((vertexAt (drop 6 v) 0 ∷ verticesOf m (drop 6 (drop 6 v))) ++ vertexAt v 0 ∷ [])) j (rw (segments-length, length-append, vertices-length m (drop 6 (drop 6 v))) (omega arith))
-
--- the same as a place's number, with what the place's test showed
-pub path-line : (c : Bool) (n : ℕ) (v : List Float) (k : ℕ) → n ≡ 1 → (k ≡ 0 → ⊥) → k < length (bezierPath c (verticesOf n v))
-    → getD (bezierPath c (verticesOf n v)) k Close ≡ Line (vertexAt v 0 .x) (vertexAt v 0 .y)
-unfolding verticesOf bezierPath
-path-line c zero v k e p h = absurd (not-suc-le-zero h)
-path-line c (suc zero) v zero e p h = absurd (p refl)
-path-line c (suc zero) v (suc zero) e p h = refl
-path-line c (suc zero) v (suc (suc k)) e p h = absurd (not-suc-le-zero (le-of-suc-le-suc (le-of-suc-le-suc h)))
-path-line c (suc (suc n)) v k e p h = absurd (omega arith)
-
-pub path-closing : (c : Bool) (n : ℕ) (v : List Float) (k : ℕ) → k ≡ n → 1 < n → k < length (bezierPath c (verticesOf n v))
-    → getD (bezierPath c (verticesOf n v)) k Close ≡ bezierSegment (vertexAt v (n - 1)) (vertexAt v 0)
-path-closing false n v k e p h = absurd (omega (arith, path-length false n v p))
-path-closing true n v k e p h = rw e (path-back n v p)
 
 -- the length, as the code counts it
 pub pathCommands-length : (closed : ℕ) (v : List Float) (count : ℕ) → 0 < count → length (pathCommands closed v count) ≡ bezierCount closed count

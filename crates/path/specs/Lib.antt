@@ -1,2 +1,3 @@
 -- The path of a vertex list.
 pub mod Path
+pub mod Between

@@ -1,11 +1,10 @@
-// A vertex list as path commands: `build_bezier_path` of drawing_paths.rs, a command at a time.
+// A vertex list as path commands: its vertices, and the segment between two, as in `build_bezier_path` of drawing_paths.rs.
 use command::PathCommand;
 ghost use mathlib.Core.Path.{_≡_};
-ghost use mathlib.Core.Bool.{Bool, _&&_};
-ghost use Prim.Native.Nat.{_+_, _*_, _<_, _≤_};
-ghost use lib.ListN.{length, getD};
-ghost use Rattle.command.specs.declared.PathCommand.the-variants.{Close};
-ghost use Rattle.path.specs.Path.{vertexAt, verticesOf, approxEq, isLine, bezierSegment, bezierPath, bezierCount, Sound};
+ghost use mathlib.Core.Bool.{cond, _&&_};
+ghost use Prim.Native.Nat.{_+_, _*_, _^_, _<_, _≤_};
+ghost use lib.ListN.{length};
+ghost use Rattle.path.specs.Path.{vertexAt, approxEq, isLine, bezierSegment, bezierCount};
 
 // A vertex with its in-tangent and its out-tangent, both relative to it.
 pub struct BezierVertex {
@@ -15,6 +14,12 @@ pub struct BezierVertex {
     pub iy: f32,
     pub ox: f32,
     pub oy: f32,
+}
+
+// A vertex that a walk over a path has come to, and the place after the numbers on the way to it.
+pub struct Reached {
+    pub vertex: BezierVertex,
+    pub at: usize,
 }
 
 // Within 1e-4, equality included.
@@ -31,19 +36,20 @@ fn approx_eq_point(ax: f32, ay: f32, bx: f32, by: f32) -> bool
     approx_eq(ax, bx) & approx_eq(ay, by)
 }
 
-// The vertex at a place of the list.
+// The vertex at a place of the list. Its tangents are read first: by this order the compiler adds them to the two points of a
+// segment as one vector.
 pub fn vertex_at(vertices: &[f32], k: usize) -> BezierVertex
     requires { ⌜ 6 * k + 6 ≤ length (now vertices) ⌝ }
     ensures { λ r. ⌜ r ≡ vertexAt (now (vertices .entry)) k ⌝ }
 {
     let i = 6 * k;
     BezierVertex {
-        x: vertices[i],
-        y: vertices[i + 1],
         ix: vertices[i + 2],
         iy: vertices[i + 3],
         ox: vertices[i + 4],
         oy: vertices[i + 5],
+        x: vertices[i],
+        y: vertices[i + 1],
     }
 }
 
@@ -56,7 +62,7 @@ pub fn is_line(a: BezierVertex, b: BezierVertex) -> bool
 }
 
 // The segment between two vertices.
-fn bezier_segment(a: BezierVertex, b: BezierVertex) -> PathCommand
+pub fn bezier_segment(a: BezierVertex, b: BezierVertex) -> PathCommand
     ensures { λ r. ⌜ r ≡ bezierSegment a b ⌝ }
 {
     if is_line(a, b) {
@@ -66,27 +72,12 @@ fn bezier_segment(a: BezierVertex, b: BezierVertex) -> PathCommand
     }
 }
 
-// The command at place k of the path of the first `count` vertices, open or closed.
-pub fn bezier_command(vertices: &[f32], count: usize, k: usize) -> PathCommand
-    requires { ⌜ Sound (now vertices) count ⌝ }
-    ensures { λ r. ⌜ ((c : Bool) → k < length (bezierPath c (verticesOf count (now (vertices .entry))))
-        → r ≡ getD (bezierPath c (verticesOf count (now (vertices .entry)))) k Close) ⌝ }
+// Where the end of a segment stands whose numbers start at a place: a cubic has its control points before it.
+pub fn end_place(line: bool, at: usize) -> usize
+    requires { ⌜ at + 4 < 2 ^ 64 ⌝ }
+    ensures { λ r. ⌜ r ≡ cond line at (at + 4) ⌝ }
 {
-    if k == 0 {
-        let a = vertex_at(vertices, 0);
-        return PathCommand::Move(a.x, a.y);
-    }
-    if count == 1 {
-        let a = vertex_at(vertices, 0);
-        return PathCommand::Line(a.x, a.y);
-    }
-    if k < count {
-        return bezier_segment(vertex_at(vertices, k - 1), vertex_at(vertices, k));
-    }
-    if k == count {
-        return bezier_segment(vertex_at(vertices, count - 1), vertex_at(vertices, 0));
-    }
-    PathCommand::Close
+    if line { at } else { at + 4 }
 }
 
 // How many commands the path has.

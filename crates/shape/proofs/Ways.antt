@@ -22,7 +22,7 @@ use Rattle.command.specs.Buffers.{fitted, inBuffers, FilledBoth, sizeOf, pairOf
 use Rattle.command.proofs.Lists.{codes-length}
 use Rattle.command.proofs.Writes.{writes}
 use Rattle.command.proofs.Buffers.{fitted-accepted, fitted-refused, filled, both-unfilled}
-use Rattle.path.specs.Path.{bezierPath, verticesOf, bezierCount, pathCommands}
+use Rattle.path.specs.Path.{bezierCount, pathCommands}
 use Rattle.path.proofs.Paths.{pathCommands-length}
 use Rattle.rect.specs.declared.Bounds.{Bounds}
 use Rattle.rect.specs.Rect.{epsilon, plainRect, roundRect, rectPath}
@@ -39,13 +39,6 @@ module _ (closed count : ℕ) (v : List Float) (fit : Fit (Path closed count) v)
   pub path-count : (n : ℕ) → n ≡ bezierCount closed count → n ≡ length (shapeCommands (Path closed count) v)
   unfolding shapeCommands
   path-count n e = e ∙ sym (pathCommands-length closed v count (fit .some))
-
-  module _ (k : ℕ) (inside : k < length (shapeCommands (Path closed count) v)) where
-    pub path-command : (r : PathCommand)
-        → ((c : Bool) → k < length (bezierPath c (verticesOf count v)) → r ≡ getD (bezierPath c (verticesOf count v)) k Close)
-        → r ≡ getD (shapeCommands (Path closed count) v) k Close
-    unfolding shapeCommands pathCommands
-    path-command r f = f _ inside
 
   pub path-numbers : (m : ℕ) → m ≡ length (numbersOf (pathCommands closed v count)) → m ≡ length (numbersOf (shapeCommands (Path closed count) v))
   unfolding shapeCommands
@@ -150,6 +143,16 @@ module _ (s t : Shape) (is : s ≡ t) (v : List Float) where
         → numbers' ≡ sets numbers i (numbersOf (shapeCommands s v))
     written numbers numbers' e = rw is e
 
+-- what is room for a shape that is a path is room for the path
+module _ (s : Shape) (closed count : ℕ) (is : s ≡ Path closed count) (v : List Float) (i n : ℕ) where
+  pub path-codes-room : i + length (codesOf (shapeCommands s v)) ≤ n → i + length (codesOf (pathCommands closed v count)) ≤ n
+  unfolding shapeCommands
+  path-codes-room h = rw is at h
+
+  pub path-numbers-room : i + length (numbersOf (shapeCommands s v)) ≤ n → i + length (numbersOf (pathCommands closed v count)) ≤ n
+  unfolding shapeCommands
+  path-numbers-room h = rw is at h
+
 -- the place after the codes
 module _ (cs : List PathCommand) (i n : ℕ) (e : n ≡ length cs) where
   pub codes-after : i + n ≡ i + length (codesOf cs)
@@ -160,16 +163,14 @@ module _ (cs : List PathCommand) (i n : ℕ) (e : n ≡ length cs) where
 
 pub ruleset afters = (codes-after, after-fits)
 
--- all that the loops over a path, over a rectangle and over an ellipse ask, and all that the matches on the kind ask
-pub ruleset path-loops = (path-count, path-command, writes, afters)
-
+-- all that the loops over a rectangle and over an ellipse ask, and all that the matches on the kind ask
 pub ruleset rect-loops = (plain-is, plain-five, round-is, round-ten, command-is, writes, afters)
 
 pub ruleset ellipse-loops = (ellipse-is, ellipse-six, command-is, writes, afters)
 
 pub ruleset path-needs = (path-few, path-count, path-numbers, size-is)
 
-pub ruleset path-arms = (path-fit, path-few, path-count, path-numbers, codes-fit, six-fits, two-more-fit)
+pub ruleset path-arms = (path-fit, path-few, path-count, path-numbers, path-codes-room, path-numbers-room, codes-fit, six-fits, two-more-fit)
 
 pub ruleset rect-arms = (rect-fit, rect-count, rect-numbers)
 

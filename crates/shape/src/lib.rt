@@ -55,39 +55,6 @@ pub fn need_of(shape: Shape, list: &[f32]) -> Size
     }
 }
 
-// Writes a path at places of buffers that it fits, and gives the places after it.
-fn write_path(
-    closed: u32,
-    count: usize,
-    list: &[f32],
-    codes: &mut [u8],
-    i: usize,
-    numbers: &mut [f32],
-    j: usize,
-) -> Size
-    requires { ⌜ Fit (Path closed count) (now list) ⌝ }
-    requires { ⌜ i + length (codesOf (shapeCommands (Path closed count) (now list))) ≤ length (now codes) ⌝ }
-    requires { ⌜ j + length (numbersOf (shapeCommands (Path closed count) (now list))) ≤ length (now numbers) ⌝ }
-    ensures { λ r. ⌜ r .codes ≡ i + length (codesOf (shapeCommands (Path closed count) (now (list .entry)))) ⌝ }
-    ensures { λ r. ⌜ r .numbers ≡ j + length (numbersOf (shapeCommands (Path closed count) (now (list .entry)))) ⌝ }
-    ensures { λ _. ⌜ now (codes .exit) ≡ sets (now (codes .entry)) i (codesOf (shapeCommands (Path closed count) (now (list .entry)))) ⌝ }
-    ensures { λ _. ⌜ now (numbers .exit) ≡ sets (now (numbers .entry)) j (numbersOf (shapeCommands (Path closed count) (now (list .entry)))) ⌝ }
-{
-    let n = path::bezier_count(closed, count);
-    let mut at = j;
-    let mut k: usize = 0;
-    while k < n {
-        let c = path::bezier_command(list, count, k);
-        codes[i + k] = command::code(c);
-        at = command::put_numbers(c, numbers, at);
-        k += 1;
-    }
-    Size {
-        codes: i + n,
-        numbers: at,
-    }
-}
-
 // The box whose centre and size are the first four numbers of a list.
 fn bounds_of(list: &[f32]) -> Bounds
     requires { ⌜ 4 ≤ length (now list) ⌝ }
@@ -188,7 +155,9 @@ pub fn write_at(
     ensures { λ _. ⌜ now (numbers .exit) ≡ sets (now (numbers .entry)) j (numbersOf (shapeCommands shape (now (list .entry)))) ⌝ }
 {
     match shape {
-        Shape::Path(closed, count) => write_path(closed, count, list, codes, i, numbers, j),
+        Shape::Path(closed, count) => {
+            segment_writer::write_path(closed, count, list, codes, i, numbers, j)
+        }
         Shape::Rect(radius) => write_rect(radius, list, codes, i, numbers, j),
         Shape::Ellipse => write_ellipse(list, codes, i, numbers, j),
     }

@@ -1,6 +1,7 @@
 -- `shape::write_at` meets its contract. Assumes nothing.
 use Rattle.shape.proofs.Ways.{arms}
 use borrow.Author.Needs.{needs}
+use Rattle.shape.specs.Shape.{shapeCommands}
 use Rattle.shape.proofs.write_at.Statement.{statement}
 use Rattle.shape.proofs.write_at.Tie as tie
 
@@ -8,7 +9,7 @@ enum-known-shape : tie.Need-enum-known-shape
 enum-known-shape c = search needs
 
 write-path-requires : tie.Need-write-path-requires
-write-path-requires c κs = search (needs, arms)
+write-path-requires c κs = (search (needs, arms), (search (needs, arms), search (needs, arms)))
 
 enum-known-shape-2 : tie.Need-enum-known-shape-2
 enum-known-shape-2 c = search needs
@@ -29,6 +30,7 @@ same-length-2 : tie.Need-same-length-2
 same-length-2 c = search needs
 
 returns : tie.Need-returns
+unfolding shapeCommands
 returns c = (search (needs, arms), (search (needs, arms), (search (needs, arms), search (needs, arms))))
 
 same-length-3 : tie.Need-same-length-3

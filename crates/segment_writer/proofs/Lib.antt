@@ -1,0 +1,2 @@
+-- What the proofs of the segment writer cite.
+pub mod Ways
