@@ -1,3 +1,2 @@
--- What the proofs of `segments` cite: the numbers of a path by how many lines it has, and each way out of a function.
-mod Numbers
+-- What the proofs of `segments` cite.
 pub mod Ways

@@ -1,2 +1,2 @@
--- What the counting of a path's numbers works out on its way.
-pub mod Lines
+-- What the counting of a path's numbers looks at on its way.
+pub mod Leaves

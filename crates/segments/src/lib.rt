@@ -1,21 +1,16 @@
-// How many numbers the path of a vertex list has: two for each line and six for each cubic, counted without writing it.
-// After the cubics that a list begins with, no branch hangs on which of the two a segment is: a list of both kinds is
-// counted as fast as one of lines.
+// How many numbers the path of a vertex list has, counted without writing it: two for each line and six for each cubic. Each
+// vertex is carried over from segment to segment, as where they are written. After the cubics that a list begins with, no branch
+// hangs on which of the two a segment is: a list of both kinds is counted as fast as one of lines.
 use path::BezierVertex;
+use path::Reached;
 ghost use mathlib.Core.Path.{_≡_};
 ghost use mathlib.Core.Bool.{_&&_};
 ghost use Prim.Native.Nat.{_+_, _-_, _*_, _<_, _≤_};
-ghost use lib.ListN.{length};
+ghost use lib.ListN.{length, drop};
 ghost use Rattle.command.specs.Commands.{numbersOf};
 ghost use Rattle.path.specs.Path.{vertexAt, pathCommands, Sound};
-ghost use Rattle.segments.specs.Lines.{lineCount, leaves, linesFrom};
-
-// 1 for a line, 0 for a cubic.
-fn line_count(a: BezierVertex, b: BezierVertex) -> u32
-    ensures { λ r. ⌜ r ≡ lineCount a b ⌝ }
-{
-    if path::is_line(a, b) { 1 } else { 0 }
-}
+ghost use Rattle.path.specs.Between.{segmentsBetween};
+ghost use Rattle.segments.specs.Leaves.{leaves};
 
 // Whether the x of the out-tangent at vertex j is enough to make the segment from there a cubic.
 fn leaves(vertices: &[f32], j: usize) -> bool
@@ -39,7 +34,8 @@ fn four_leave(vertices: &[f32], j: usize) -> bool
 // A vertex before which there are only cubics. A list of cubics is passed over four at a time, up to its last few.
 fn cubics_before(vertices: &[f32], count: usize) -> usize
     requires { ⌜ Sound (now vertices) count ⌝ }
-    ensures { λ r. ⌜ (r < count) × (linesFrom (now (vertices .entry)) r (count - 1 - r) ≡ linesFrom (now (vertices .entry)) 0 (count - 1)) ⌝ }
+    ensures { λ r. ⌜ (r < count) × (6 * r + length (numbersOf (drop r (segmentsBetween (now (vertices .entry)) count)))
+        ≡ length (numbersOf (segmentsBetween (now (vertices .entry)) count))) ⌝ }
 {
     let mut j: usize = 0;
     while j + 4 < count {
@@ -52,22 +48,37 @@ fn cubics_before(vertices: &[f32], count: usize) -> usize
     j
 }
 
-// How many of the segments between the vertices are lines. Each vertex is read once, and carried over as the start of the
-// next segment; the sum is of 32 bits, by which the compiler tests the four coordinates of a segment together.
-fn lines_between(vertices: &[f32], count: usize) -> u32
+// The vertex at a place, of which the first has been read.
+fn vertex_from(first: BezierVertex, vertices: &[f32], j: usize) -> BezierVertex
+    requires { ⌜ 6 * j + 6 ≤ length (now vertices) ⌝ }
+    requires { ⌜ first ≡ vertexAt (now vertices) 0 ⌝ }
+    ensures { λ r. ⌜ r ≡ vertexAt (now (vertices .entry)) j ⌝ }
+{
+    if j == 0 {
+        first
+    } else {
+        path::vertex_at(vertices, j)
+    }
+}
+
+// How many numbers a move and the segments between the vertices have, and the last vertex. The place after a segment is that
+// after its end, by which the compiler tests the four coordinates of a segment together.
+fn numbers_between(first: BezierVertex, vertices: &[f32], count: usize) -> Reached
     requires { ⌜ Sound (now vertices) count ⌝ }
-    ensures { λ r. ⌜ r ≡ linesFrom (now (vertices .entry)) 0 (count - 1) ⌝ }
+    requires { ⌜ first ≡ vertexAt (now vertices) 0 ⌝ }
+    ensures { λ r. ⌜ r .vertex ≡ vertexAt (now (vertices .entry)) (count - 1) ⌝ }
+    ensures { λ r. ⌜ r .at ≡ 2 + length (numbersOf (segmentsBetween (now (vertices .entry)) count)) ⌝ }
 {
     let mut j = cubics_before(vertices, count);
-    let mut a = path::vertex_at(vertices, j);
-    let mut lines: u32 = 0;
+    let mut a = vertex_from(first, vertices, j);
+    let mut at = 2 + 6 * j;
     while j + 1 < count {
         let b = path::vertex_at(vertices, j + 1);
-        lines += line_count(a, b);
+        at = path::end_place(path::is_line(a, b), at) + 2;
         a = b;
         j += 1;
     }
-    lines
+    Reached { vertex: a, at: at }
 }
 
 // How many numbers the path of the first `count` vertices has.
@@ -78,13 +89,11 @@ pub fn path_numbers(closed: u32, vertices: &[f32], count: usize) -> usize
     if count == 1 {
         return 4;
     }
-    let lines = lines_between(vertices, count) as usize;
+    let first = path::vertex_at(vertices, 0);
+    let reached = numbers_between(first, vertices, count);
     if closed == 1 {
-        let back = line_count(
-            path::vertex_at(vertices, count - 1),
-            path::vertex_at(vertices, 0),
-        ) as usize;
-        return 6 * count + 2 - 4 * (lines + back);
+        let line = path::is_line(reached.vertex, first);
+        return path::end_place(line, reached.at) + 2;
     }
-    6 * count - 4 - 4 * lines
+    reached.at
 }
