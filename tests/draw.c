@@ -401,6 +401,91 @@ static void test_curly_paths(void)
         }
 }
 
+#define FEW_VERTICES 6
+
+/* Writes the segment between two vertices as the header has it, and gives how many numbers it has. */
+static size_t make_segment(const float *a, const float *b, uint8_t *code, float *xs)
+{
+    const float cubic[6] = {a[0] + a[4], a[1] + a[5], b[0] + b[2], b[1] + b[3], b[0], b[1]};
+    int straight = a[4] == 0 && a[5] == 0 && b[2] == 0 && b[3] == 0;
+    *code = straight ? JENGAFIR_LINE : JENGAFIR_CUBIC;
+    memcpy(xs, straight ? b : cubic, (straight ? 2 : 6) * sizeof *xs);
+    return straight ? 2 : 6;
+}
+
+/* Vertices of which segment i, that to the vertex after i or from the last to the first, is a line where bit i is set. */
+static void make_mixed_vertices(unsigned lines, size_t count, float *vertices)
+{
+    for (size_t i = 0; i < count; i++) {
+        const float vertex[6] = {3 * (float)i, (float)(i * i), 0.5f, -1, -0.25f, 2};
+        memcpy(vertices + 6 * i, vertex, sizeof vertex);
+    }
+    for (size_t i = 0; i < count; i++)
+        if (lines >> i & 1) {
+            float *next = vertices + 6 * ((i + 1) % count);
+            vertices[6 * i + 4] = vertices[6 * i + 5] = next[2] = next[3] = 0;
+        }
+}
+
+/* Every order of lines and cubics, open and closed: no place after the last number is written, whatever went before. */
+static void test_mixed_paths(void)
+{
+    float vertices[6 * FEW_VERTICES], xs[6 * FEW_VERTICES + 2];
+    uint8_t cs[FEW_VERTICES + 2];
+    for (size_t count = 2; count <= FEW_VERTICES; count++)
+        for (unsigned lines = 0; lines < 1u << count; lines++)
+            for (uint32_t closed = 0; closed <= 1; closed++) {
+                size_t segments = closed ? count : count - 1, m = 2;
+                make_mixed_vertices(lines, count, vertices);
+                cs[0] = JENGAFIR_MOVE;
+                memcpy(xs, vertices, 2 * sizeof *xs);
+                for (size_t i = 0; i < segments; i++)
+                    m += make_segment(vertices + 6 * i, vertices + 6 * ((i + 1) % count), cs + 1 + i, xs + m);
+                cs[1 + segments] = JENGAFIR_CLOSE;
+                path_drawn("lines and cubics", closed, vertices, count, cs, 1 + segments + closed, xs, m);
+            }
+}
+
+/* Holds command k of what was drawn last against the segment between two vertices: its code, its numbers, their count. */
+static void segment_written(const char *call, uint32_t got, size_t k, const float *a, const float *b)
+{
+    size_t start = 0, count = 0;
+    uint8_t code;
+    float xs[6];
+    size_t m = make_segment(a, b, &code, xs);
+    uint32_t found = jengafir_command(codes, codes_written, numbers, numbers_written, k, &start, &count);
+    compared++;
+    if (got != JENGAFIR_ACCEPTED || found != JENGAFIR_ACCEPTED || codes[k] != code || count != m
+        || memcmp(numbers + start, xs, m * sizeof *xs) != 0) {
+        printf("%s: command %zu is not the segment's\n", call, k);
+        wrong++;
+    }
+}
+
+/* Two vertices in lists of which all else differs, the flag and the count too: their segment is the same command. */
+static void test_segments_alike(void)
+{
+    static const float pairs[][12] = {
+        {1, 2, 9, 9, 0, 0, 4, 8, 0, 0, 7, 7},
+        {1, 2, 9, 9, 0.5f, 0, 4, 8, 0, 0, 7, 7},
+        {1, 2, 0, 0, 0, 0, 4, 8, 0, -2, 0, 0},
+        {-0.0f, LIMIT, 1, 0, -0.0f, -1, -LIMIT, -0.0f, 3, -0.0f, 0, 1},
+    };
+    for (size_t i = 0; i < COUNT(pairs); i++) {
+        const float *a = pairs[i], *b = pairs[i] + 6;
+        float within[6 * 5], around[6 * 3];
+        make_mixed_vertices(5, 5, within);
+        memcpy(within + 6 * 2, pairs[i], sizeof pairs[i]);
+        make_mixed_vertices(2, 3, around);
+        memcpy(around, b, 6 * sizeof *b);
+        memcpy(around + 6 * 2, a, 6 * sizeof *a);
+        segment_written("two vertices", draw_path(0, a, 12, 2, 40, 40), 1, a, b);
+        segment_written("within an open list", draw_path(0, within, COUNT(within), 5, 40, 40), 3, a, b);
+        segment_written("at its end", draw_path(0, within, COUNT(within), 4, 40, 40), 3, a, b);
+        segment_written("from the last to the first", draw_path(1, around, COUNT(around), 3, 40, 40), 3, a, b);
+    }
+}
+
 int main(void)
 {
     test_paths();
@@ -411,6 +496,8 @@ int main(void)
     test_ellipses();
     test_row_refusals();
     test_curly_paths();
+    test_mixed_paths();
+    test_segments_alike();
     if (wrong != 0) {
         printf("%d of %d wrong\n", wrong, compared);
         return 1;
