@@ -11,11 +11,10 @@ use mir.Val.{Fits}
 use mir.Syntax.{w64}
 use Rattle.command.specs.declared.PathCommand.{PathCommand}
 use Rattle.command.specs.Commands.{coordinatesOf, numbersOf}
-use Rattle.command.proofs.Lists.{split}
+use Rattle.command.proofs.Lists.{numbers-few, split}
 use Rattle.path.specs.declared.BezierVertex.{BezierVertex}
 use Rattle.path.specs.Path.{approxEq, approxEqPoint, outX, outY, inX, inY, isLine, vertexAt, bezierSegment, pathCommands, Sound}
 use Rattle.path.specs.Between.{segmentsBetween}
-use Rattle.path.proofs.Counts.{path-numbers}
 use Rattle.path.proofs.Segment.{segment-is, segment-numbers, place-after}
 use Rattle.path.proofs.Between.{between-length, between-at, path-one, path-open, path-left, closed-numbers}
 use Rattle.segments.specs.Leaves.{leaves}
@@ -139,10 +138,14 @@ module _ (v : List Float) (count : ℕ) (s : Sound v count) where
     pub four-fits : at + 4 < 2 ^ 64
     four-fits = omega (arith, s .few, T .inside, T .few)
 
-    module _ (b : BezierVertex) (t : Bool) (end : ℕ) (t-is : t ≡ isLine a b) (end-is : end ≡ cond t at (at + 4)) where
-      pub end-fits : Fits w64 (end + 2)
-      end-fits = record { fits = omega (arith, s .few, T .inside, T .few, place-after a b t at end t-is end-is, segment-numbers a b) }
+    pub end-fits : (t : Bool) (end : ℕ) → end ≡ cond t at (at + 4) → Fits w64 (end + 2)
+    end-fits t end e = record { fits = rw e (go t) }
+      where
+        go : (u : Bool) → cond u at (at + 4) + 2 < 2 ^ 64
+        go true = omega (arith, s .few, T .inside, T .few)
+        go false = omega (arith, s .few, T .inside, T .few)
 
+    module _ (b : BezierVertex) (t : Bool) (end : ℕ) (t-is : t ≡ isLine a b) (end-is : end ≡ cond t at (at + 4)) where
       pub tally-more : j + 1 < count → b ≡ vertexAt v (j + 1) → Tally v count b (j + 1) (end + 2)
       tally-more h is =
           let step : rest v count j ≡ length (coordinatesOf (bezierSegment a b)) + rest v count (j + 1) =
@@ -168,28 +171,30 @@ module _ (closed : ℕ) (v : List Float) (count : ℕ) (s : Sound v count) where
   pub one-vertex : count ≡ 1 → 4 ≡ length (numbersOf (pathCommands closed v count))
   one-vertex e = ap (λ (l : List PathCommand). length (numbersOf l)) (sym (path-one v closed count e))
 
-  module _ (more : count ≡ 1 → ⊥) (at : ℕ) (at-is : at ≡ 2 + length (numbersOf (segmentsBetween v count))) where
-    several : 1 < count
-    several = omega (arith, s .some)
-
-    pub open-is : (closed ≡ 1 → ⊥) → at ≡ length (numbersOf (pathCommands closed v count))
-    open-is h = omega (arith, ap (λ (l : List PathCommand). length (numbersOf l)) (path-open v closed count several h))
-
-    left-is : at ≡ length (numbersOf (pathCommands 0 v count))
-    left-is = omega (arith, ap (λ (l : List PathCommand). length (numbersOf l)) (path-left v count several))
-
-    few : at ≤ 6 * count + 2
-    few = rw left-is (path-numbers 0 v count (s .some))
-
+  module _ (at : ℕ) (at-is : at ≡ 2 + length (numbersOf (segmentsBetween v count))) where
     pub back-fits : at + 4 < 2 ^ 64
-    back-fits = omega (arith, few, s .few)
+    back-fits = omega (arith, numbers-few (segmentsBetween v count), between-length v count, s .few)
 
-    module _ (z a : BezierVertex) (t : Bool) (end : ℕ) (t-is : t ≡ isLine z a) (end-is : end ≡ cond t at (at + 4)) where
-      pub closed-fits : Fits w64 (end + 2)
-      closed-fits = record { fits = omega (arith, few, s .few, place-after z a t at end t-is end-is, segment-numbers z a) }
+    pub closed-fits : (t : Bool) (end : ℕ) → end ≡ cond t at (at + 4) → Fits w64 (end + 2)
+    closed-fits t end e = record { fits = rw e (go t) }
+      where
+        go : (u : Bool) → cond u at (at + 4) + 2 < 2 ^ 64
+        go true = omega (arith, back-fits)
+        go false = omega (arith, numbers-few (segmentsBetween v count), between-length v count, s .few)
 
-      pub closed-is : closed ≡ 1 → z ≡ vertexAt v (count - 1) → a ≡ vertexAt v 0 → end + 2 ≡ length (numbersOf (pathCommands closed v count))
-      closed-is h z-is a-is =
+    module _ (more : count ≡ 1 → ⊥) where
+      several : 1 < count
+      several = omega (arith, s .some)
+
+      pub open-is : (closed ≡ 1 → ⊥) → at ≡ length (numbersOf (pathCommands closed v count))
+      open-is h = omega (arith, ap (λ (l : List PathCommand). length (numbersOf l)) (path-open v closed count several h))
+
+      left-is : at ≡ length (numbersOf (pathCommands 0 v count))
+      left-is = omega (arith, ap (λ (l : List PathCommand). length (numbersOf l)) (path-left v count several))
+
+      pub closed-is : (z a : BezierVertex) (t : Bool) (end : ℕ) → t ≡ isLine z a → end ≡ cond t at (at + 4) → closed ≡ 1 → z ≡ vertexAt v (count - 1)
+          → a ≡ vertexAt v 0 → end + 2 ≡ length (numbersOf (pathCommands closed v count))
+      closed-is z a t end t-is end-is h z-is a-is =
           place-after z a t at end t-is end-is
           ∙ ap₂ (λ (n : ℕ) (c : PathCommand). n + length (coordinatesOf c)) left-is (ap₂ bezierSegment z-is a-is)
           ∙ sym (ap length (closed-numbers v closed count several h) ∙ length-append (numbersOf (pathCommands 0 v count)) _)
