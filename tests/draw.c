@@ -403,7 +403,7 @@ static void test_curly_paths(void)
 
 #define FEW_VERTICES 6
 
-/* Writes the segment between two vertices as the header has it, and gives how many numbers it has. */
+/* Writes the segment between two vertices, whose tangents are zero or long, and gives how many numbers it has. */
 static size_t make_segment(const float *a, const float *b, uint8_t *code, float *xs)
 {
     const float cubic[6] = {a[0] + a[4], a[1] + a[5], b[0] + b[2], b[1] + b[3], b[0], b[1]};
@@ -413,7 +413,7 @@ static size_t make_segment(const float *a, const float *b, uint8_t *code, float 
     return straight ? 2 : 6;
 }
 
-/* Vertices of which segment i, that to the vertex after i or from the last to the first, is a line where bit i is set. */
+/* Vertices of which segment i, to the vertex after i or from the last to the first, is a line where bit i is set. */
 static void make_mixed_vertices(unsigned lines, size_t count, float *vertices)
 {
     for (size_t i = 0; i < count; i++) {
@@ -446,7 +446,7 @@ static void test_mixed_paths(void)
             }
 }
 
-/* Holds command k of what was drawn last against the segment between two vertices: its code, its numbers, their count. */
+/* Holds command k of what was drawn last against the segment between two vertices: code, numbers and their count. */
 static void segment_written(const char *call, uint32_t got, size_t k, const float *a, const float *b)
 {
     size_t start = 0, count = 0;
@@ -462,9 +462,26 @@ static void segment_written(const char *call, uint32_t got, size_t k, const floa
     }
 }
 
-/* Two vertices in lists of which all else differs, the flag and the count too: their segment is the same command. */
+/* Merges a closed list of three vertices with an open one of two, whose segment is then command 6. */
+static uint32_t merge_with_three(const float *three, const float *two)
+{
+    static const uint32_t rows[] = {
+        JENGAFIR_SH, 0, 0, 1, 0,  3, /* the three */
+        JENGAFIR_SH, 0, 0, 0, 18, 2, /* the two */
+        JENGAFIR_MM, 0, 0, 1, 0,  0,
+    };
+    float both[6 * 5];
+    memcpy(both, three, 18 * sizeof *both);
+    memcpy(both + 18, two, 12 * sizeof *both);
+    prepare();
+    return jengafir_merge(rows, COUNT(rows), 3, both, COUNT(both), codes, 40, numbers, 60, &codes_written,
+                          &numbers_written);
+}
+
+/* Two vertices in lists of which all else differs, flag, count and call too: their segment is the same command. */
 static void test_segments_alike(void)
 {
+    static const uint32_t row[] = {JENGAFIR_SH, 1, 7, 0, 12, 5};
     static const float pairs[][12] = {
         {1, 2, 9, 9, 0, 0, 4, 8, 0, 0, 7, 7},
         {1, 2, 9, 9, 0.5f, 0, 4, 8, 0, 0, 7, 7},
@@ -473,16 +490,19 @@ static void test_segments_alike(void)
     };
     for (size_t i = 0; i < COUNT(pairs); i++) {
         const float *a = pairs[i], *b = pairs[i] + 6;
-        float within[6 * 5], around[6 * 3];
+        float within[6 * 5], around[6 * 3], item_numbers[12 + 6 * 5] = {0};
         make_mixed_vertices(5, 5, within);
         memcpy(within + 6 * 2, pairs[i], sizeof pairs[i]);
         make_mixed_vertices(2, 3, around);
         memcpy(around, b, 6 * sizeof *b);
         memcpy(around + 6 * 2, a, 6 * sizeof *a);
+        memcpy(item_numbers + 12, within, sizeof within);
         segment_written("two vertices", draw_path(0, a, 12, 2, 40, 40), 1, a, b);
         segment_written("within an open list", draw_path(0, within, COUNT(within), 5, 40, 40), 3, a, b);
         segment_written("at its end", draw_path(0, within, COUNT(within), 4, 40, 40), 3, a, b);
         segment_written("from the last to the first", draw_path(1, around, COUNT(around), 3, 40, 40), 3, a, b);
+        segment_written("of a row", draw_item(row, 6, item_numbers, COUNT(item_numbers), 40, 40), 3, a, b);
+        segment_written("of a merge", merge_with_three(around, a), 6, a, b);
     }
 }
 

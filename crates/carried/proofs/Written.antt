@@ -17,7 +17,7 @@ use Rattle.command.proofs.Buffers.{fitted-accepted, fitted-refused}
 use Rattle.reader.specs.Read.{sizeOfCode}
 use Rattle.reader.proofs.Commands.{size-of}
 use Rattle.judge.specs.Lists.{placeOf}
-use Rattle.carried.specs.Segments.{Wrote, commandAt}
+use Rattle.carried.specs.Segments.{Wrote, writtenAt}
 
 -- the numbers of a command in front of others, and what stands past them
 module _ (c : PathCommand) (v w : List Float) where
@@ -31,7 +31,7 @@ module _ (c : PathCommand) (v w : List Float) where
 
 -- a command of a list whose codes and numbers stand at the start of two buffers
 command-written : (cs : List PathCommand) (k : ℕ) (xs : List ℕ) (ys : List Float) → k < length cs
-    → commandAt (codesOf cs ++ xs) (numbersOf cs ++ ys) k ≡ (codeOf (getD cs k Close), coordinatesOf (getD cs k Close))
+    → writtenAt (codesOf cs ++ xs) (numbersOf cs ++ ys) k ≡ (codeOf (getD cs k Close), coordinatesOf (getD cs k Close))
 unfolding placeOf
 command-written [] k xs ys h = absurd (omega arith)
 command-written (c ∷ cs) zero xs ys h = ap (λ (v : List Float). (codeOf c, v)) (own c (numbersOf cs) ys)
@@ -57,11 +57,11 @@ wrote-commands (accepted cs) codes numbers w = (cs, refl)
 
 -- each command of a drawing in the buffers that the call has left
 pub drawn-written : (o : Outcome (List PathCommand)) (codes : List ℕ) (numbers : List Float) (cs : List PathCommand) (k : ℕ)
-    → Wrote o codes numbers → o ≡ accepted cs → k < length cs → commandAt codes numbers k ≡ (codeOf (getD cs k Close), coordinatesOf (getD cs k Close))
+    → Wrote o codes numbers → o ≡ accepted cs → k < length cs → writtenAt codes numbers k ≡ (codeOf (getD cs k Close), coordinatesOf (getD cs k Close))
 drawn-written o codes numbers cs k w e h =
     let fits : List PathCommand → Bool = inBuffers (length (w .codesBefore)) (length (w .numbersBefore)) in
     let Left : Outcome (List PathCommand) → Type 0 = λ p. FilledBoth p 0 (w .codesCount) (w .numbersCount) (w .codesBefore) codes (w .numbersBefore) numbers in
     let fitting : Left (fitted fits (accepted cs)) = subst (λ (p : Outcome (List PathCommand)). Left (fitted fits p)) e (w .filled) in
     let left : Left (accepted cs) = subst Left (fitted-zero codesOf fits cs (fitting .codes-filled .number-is)) fitting in
-    ap₂ (λ (c : List ℕ) (v : List Float). commandAt c v k) (left .codes-filled .content-is) (left .numbers-filled .content-is)
+    ap₂ (λ (c : List ℕ) (v : List Float). writtenAt c v k) (left .codes-filled .content-is) (left .numbers-filled .content-is)
     ∙ command-written cs k (drop (length (codesOf cs)) (w .codesBefore)) (drop (length (numbersOf cs)) (w .numbersBefore)) h

@@ -15,14 +15,14 @@ use Rattle.draw.specs.Paths.{drawPath}
 use Rattle.draw.specs.Items.{drawItem}
 use Rattle.merge.specs.Decision.{decision}
 use Rattle.join.specs.Merge.{drawJoined, drawMerge}
-use Rattle.carried.specs.Segments.{isSegment, startOf, nextOf, DrawnIn, Wrote, commandAt}
+use Rattle.carried.specs.Segments.{isSegment, startOf, nextOf, DrawnIn, Wrote, writtenAt}
 
 -- a segment's command in the buffers is one function of the two vertices
 abbrev pub SegmentWritten : Type 0
 SegmentWritten =
     (o : Outcome (List PathCommand)) (codes : List ℕ) (numbers : List Float) (p closed : ℕ) (v : List Float) (count k : ℕ)
     → Wrote o codes numbers → DrawnIn o p closed v count → isSegment closed count k ≡ true
-    → commandAt codes numbers (p + k)
+    → writtenAt codes numbers (p + k)
     ≡ (codeOf (bezierSegment (startOf v k) (nextOf v count k)), coordinatesOf (bezierSegment (startOf v k) (nextOf v count k)))
 
 -- 'whatever else differs, flag and count too, segments of two drawn lists whose start and next vertex agree bit for bit write the same command': its code,
@@ -34,7 +34,7 @@ SegmentsAlike =
     → Wrote o codes numbers → DrawnIn o p closed v count → isSegment closed count k ≡ true
     → Wrote o' codes' numbers' → DrawnIn o' p' closed' v' count' → isSegment closed' count' k' ≡ true
     → startOf v k ≡ startOf v' k' → nextOf v count k ≡ nextOf v' count' k'
-    → commandAt codes numbers (p + k) ≡ commandAt codes' numbers' (p' + k')
+    → writtenAt codes numbers (p + k) ≡ writtenAt codes' numbers' (p' + k')
 
 -- ---- the lists that a call draws which has answered: its own, that of a row, and those of the rows that a merge joins, each after the rows before it
 

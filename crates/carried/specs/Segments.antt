@@ -45,5 +45,5 @@ pub record Wrote (o : Outcome (List PathCommand)) (codes : List ℕ) (numbers : 
   pub filled : FilledBoth (fitted (inBuffers (length codesBefore) (length numbersBefore)) o) 0 codesCount numbersCount codesBefore codes numbersBefore numbers
 
 -- command k of two buffers: its code and its numbers, which are as many as the code has
-abbrev pub commandAt : List ℕ → List Float → ℕ → ℕ × List Float
-commandAt codes numbers k = (getD codes k 3, take (sizeOfCode (getD codes k 3)) (drop (placeOf k codes) numbers))
+abbrev pub writtenAt : List ℕ → List Float → ℕ → ℕ × List Float
+writtenAt codes numbers k = (getD codes k 3, take (sizeOfCode (getD codes k 3)) (drop (placeOf k codes) numbers))

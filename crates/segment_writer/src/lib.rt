@@ -24,7 +24,7 @@ fn segment_code(line: bool) -> u8
 
 // Writes a segment which two numbers or more are to follow, with no branch on what it is: its control points, and then its end,
 // which of a line stands in the place of the first. The second is left after it, where what follows will stand.
-pub fn put_followed(
+fn put_followed(
     a: BezierVertex,
     b: BezierVertex,
     codes: &mut [u8],
@@ -61,72 +61,72 @@ fn put(command: PathCommand, codes: &mut [u8], i: usize, numbers: &mut [f32], at
 // left, so that one is put as it is.
 fn write_segments(
     first: BezierVertex,
+    vertices: &[f32],
     count: usize,
-    list: &[f32],
     codes: &mut [u8],
     i: usize,
     numbers: &mut [f32],
     j: usize,
 ) -> Reached
-    requires { ⌜ Sound (now list) count ⌝ }
+    requires { ⌜ Sound (now vertices) count ⌝ }
     requires { ⌜ 1 < count ⌝ }
-    requires { ⌜ first ≡ vertexAt (now list) 0 ⌝ }
-    requires { ⌜ i + length (codesOf (segmentsBetween (now list) count)) ≤ length (now codes) ⌝ }
-    requires { ⌜ j + length (numbersOf (segmentsBetween (now list) count)) ≤ length (now numbers) ⌝ }
-    ensures { λ r. ⌜ r .vertex ≡ vertexAt (now (list .entry)) (count - 1) ⌝ }
-    ensures { λ r. ⌜ r .at ≡ j + length (numbersOf (segmentsBetween (now (list .entry)) count)) ⌝ }
-    ensures { λ _. ⌜ now (codes .exit) ≡ sets (now (codes .entry)) i (codesOf (segmentsBetween (now (list .entry)) count)) ⌝ }
-    ensures { λ _. ⌜ now (numbers .exit) ≡ sets (now (numbers .entry)) j (numbersOf (segmentsBetween (now (list .entry)) count)) ⌝ }
+    requires { ⌜ first ≡ vertexAt (now vertices) 0 ⌝ }
+    requires { ⌜ i + length (codesOf (segmentsBetween (now vertices) count)) ≤ length (now codes) ⌝ }
+    requires { ⌜ j + length (numbersOf (segmentsBetween (now vertices) count)) ≤ length (now numbers) ⌝ }
+    ensures { λ r. ⌜ r .vertex ≡ vertexAt (now (vertices .entry)) (count - 1) ⌝ }
+    ensures { λ r. ⌜ r .at ≡ j + length (numbersOf (segmentsBetween (now (vertices .entry)) count)) ⌝ }
+    ensures { λ _. ⌜ now (codes .exit) ≡ sets (now (codes .entry)) i (codesOf (segmentsBetween (now (vertices .entry)) count)) ⌝ }
+    ensures { λ _. ⌜ now (numbers .exit) ≡ sets (now (numbers .entry)) j (numbersOf (segmentsBetween (now (vertices .entry)) count)) ⌝ }
 {
     let last = count - 2;
     let mut a = first;
     let mut at = j;
     let mut k: usize = 0;
     while k < last {
-        let b = path::vertex_at(list, k + 1);
+        let b = path::vertex_at(vertices, k + 1);
         at = put_followed(a, b, codes, i + k, numbers, at);
         a = b;
         k += 1;
     }
-    let b = path::vertex_at(list, k + 1);
+    let b = path::vertex_at(vertices, k + 1);
     let end = put(path::bezier_segment(a, b), codes, i + k, numbers, at);
     Reached { vertex: b, at: end }
 }
 
 // Writes one vertex: a move and a line to it.
-fn write_point(a: BezierVertex, codes: &mut [u8], i: usize, numbers: &mut [f32], at: usize) -> usize
+fn write_point(a: BezierVertex, codes: &mut [u8], i: usize, numbers: &mut [f32], j: usize) -> usize
     requires { ⌜ i + 2 ≤ length (now codes) ⌝ }
-    requires { ⌜ at + 4 ≤ length (now numbers) ⌝ }
-    ensures { λ r. ⌜ r ≡ at + 4 ⌝ }
+    requires { ⌜ j + 4 ≤ length (now numbers) ⌝ }
+    ensures { λ r. ⌜ r ≡ j + 4 ⌝ }
     ensures { λ _. ⌜ now (codes .exit) ≡ sets (now (codes .entry)) i (0 ∷ 1 ∷ []) ⌝ }
-    ensures { λ _. ⌜ now (numbers .exit) ≡ sets (now (numbers .entry)) at (a .x ∷ a .y ∷ a .x ∷ a .y ∷ []) ⌝ }
+    ensures { λ _. ⌜ now (numbers .exit) ≡ sets (now (numbers .entry)) j (a .x ∷ a .y ∷ a .x ∷ a .y ∷ []) ⌝ }
 {
-    let next = put(PathCommand::Move(a.x, a.y), codes, i, numbers, at);
+    let next = put(PathCommand::Move(a.x, a.y), codes, i, numbers, j);
     put(PathCommand::Line(a.x, a.y), codes, i + 1, numbers, next)
 }
 
 // Writes the path of two vertices or more, left open.
 fn write_open(
     first: BezierVertex,
+    vertices: &[f32],
     count: usize,
-    list: &[f32],
     codes: &mut [u8],
     i: usize,
     numbers: &mut [f32],
-    at: usize,
+    j: usize,
 ) -> Reached
-    requires { ⌜ Sound (now list) count ⌝ }
+    requires { ⌜ Sound (now vertices) count ⌝ }
     requires { ⌜ 1 < count ⌝ }
-    requires { ⌜ first ≡ vertexAt (now list) 0 ⌝ }
-    requires { ⌜ i + length (codesOf (pathCommands 0 (now list) count)) ≤ length (now codes) ⌝ }
-    requires { ⌜ at + length (numbersOf (pathCommands 0 (now list) count)) ≤ length (now numbers) ⌝ }
-    ensures { λ r. ⌜ r .vertex ≡ vertexAt (now (list .entry)) (count - 1) ⌝ }
-    ensures { λ r. ⌜ r .at ≡ at + length (numbersOf (pathCommands 0 (now (list .entry)) count)) ⌝ }
-    ensures { λ _. ⌜ now (codes .exit) ≡ sets (now (codes .entry)) i (codesOf (pathCommands 0 (now (list .entry)) count)) ⌝ }
-    ensures { λ _. ⌜ now (numbers .exit) ≡ sets (now (numbers .entry)) at (numbersOf (pathCommands 0 (now (list .entry)) count)) ⌝ }
+    requires { ⌜ first ≡ vertexAt (now vertices) 0 ⌝ }
+    requires { ⌜ i + length (codesOf (pathCommands 0 (now vertices) count)) ≤ length (now codes) ⌝ }
+    requires { ⌜ j + length (numbersOf (pathCommands 0 (now vertices) count)) ≤ length (now numbers) ⌝ }
+    ensures { λ r. ⌜ r .vertex ≡ vertexAt (now (vertices .entry)) (count - 1) ⌝ }
+    ensures { λ r. ⌜ r .at ≡ j + length (numbersOf (pathCommands 0 (now (vertices .entry)) count)) ⌝ }
+    ensures { λ _. ⌜ now (codes .exit) ≡ sets (now (codes .entry)) i (codesOf (pathCommands 0 (now (vertices .entry)) count)) ⌝ }
+    ensures { λ _. ⌜ now (numbers .exit) ≡ sets (now (numbers .entry)) j (numbersOf (pathCommands 0 (now (vertices .entry)) count)) ⌝ }
 {
-    let next = put(PathCommand::Move(first.x, first.y), codes, i, numbers, at);
-    write_segments(first, count, list, codes, i + 1, numbers, next)
+    let next = put(PathCommand::Move(first.x, first.y), codes, i, numbers, j);
+    write_segments(first, vertices, count, codes, i + 1, numbers, next)
 }
 
 // Writes the segment from the last vertex back to the first, and the close.
@@ -136,37 +136,37 @@ fn write_back(
     codes: &mut [u8],
     i: usize,
     numbers: &mut [f32],
-    at: usize,
+    j: usize,
 ) -> usize
     requires { ⌜ i + 2 ≤ length (now codes) ⌝ }
-    requires { ⌜ at + length (coordinatesOf (bezierSegment last first)) ≤ length (now numbers) ⌝ }
-    ensures { λ r. ⌜ r ≡ at + length (coordinatesOf (bezierSegment last first)) ⌝ }
+    requires { ⌜ j + length (coordinatesOf (bezierSegment last first)) ≤ length (now numbers) ⌝ }
+    ensures { λ r. ⌜ r ≡ j + length (coordinatesOf (bezierSegment last first)) ⌝ }
     ensures { λ _. ⌜ now (codes .exit) ≡ sets (now (codes .entry)) i (codeOf (bezierSegment last first) ∷ 3 ∷ []) ⌝ }
-    ensures { λ _. ⌜ now (numbers .exit) ≡ sets (now (numbers .entry)) at (coordinatesOf (bezierSegment last first)) ⌝ }
+    ensures { λ _. ⌜ now (numbers .exit) ≡ sets (now (numbers .entry)) j (coordinatesOf (bezierSegment last first)) ⌝ }
 {
-    let next = put(path::bezier_segment(last, first), codes, i, numbers, at);
+    let next = put(path::bezier_segment(last, first), codes, i, numbers, j);
     put(PathCommand::Close, codes, i + 1, numbers, next)
 }
 
 // Writes the path of the first `count` vertices at places of buffers that it fits, and gives the places after it.
 pub fn write_path(
     closed: u32,
+    vertices: &[f32],
     count: usize,
-    list: &[f32],
     codes: &mut [u8],
     i: usize,
     numbers: &mut [f32],
     j: usize,
 ) -> Size
-    requires { ⌜ Sound (now list) count ⌝ }
-    requires { ⌜ i + length (codesOf (pathCommands closed (now list) count)) ≤ length (now codes) ⌝ }
-    requires { ⌜ j + length (numbersOf (pathCommands closed (now list) count)) ≤ length (now numbers) ⌝ }
-    ensures { λ r. ⌜ r .codes ≡ i + length (codesOf (pathCommands closed (now (list .entry)) count)) ⌝ }
-    ensures { λ r. ⌜ r .numbers ≡ j + length (numbersOf (pathCommands closed (now (list .entry)) count)) ⌝ }
-    ensures { λ _. ⌜ now (codes .exit) ≡ sets (now (codes .entry)) i (codesOf (pathCommands closed (now (list .entry)) count)) ⌝ }
-    ensures { λ _. ⌜ now (numbers .exit) ≡ sets (now (numbers .entry)) j (numbersOf (pathCommands closed (now (list .entry)) count)) ⌝ }
+    requires { ⌜ Sound (now vertices) count ⌝ }
+    requires { ⌜ i + length (codesOf (pathCommands closed (now vertices) count)) ≤ length (now codes) ⌝ }
+    requires { ⌜ j + length (numbersOf (pathCommands closed (now vertices) count)) ≤ length (now numbers) ⌝ }
+    ensures { λ r. ⌜ r .codes ≡ i + length (codesOf (pathCommands closed (now (vertices .entry)) count)) ⌝ }
+    ensures { λ r. ⌜ r .numbers ≡ j + length (numbersOf (pathCommands closed (now (vertices .entry)) count)) ⌝ }
+    ensures { λ _. ⌜ now (codes .exit) ≡ sets (now (codes .entry)) i (codesOf (pathCommands closed (now (vertices .entry)) count)) ⌝ }
+    ensures { λ _. ⌜ now (numbers .exit) ≡ sets (now (numbers .entry)) j (numbersOf (pathCommands closed (now (vertices .entry)) count)) ⌝ }
 {
-    let first = path::vertex_at(list, 0);
+    let first = path::vertex_at(vertices, 0);
     if count == 1 {
         let end = write_point(first, codes, i, numbers, j);
         return Size {
@@ -174,7 +174,7 @@ pub fn write_path(
             numbers: end,
         };
     }
-    let reached = write_open(first, count, list, codes, i, numbers, j);
+    let reached = write_open(first, vertices, count, codes, i, numbers, j);
     let next = i + count;
     if closed == 1 {
         let end = write_back(reached.vertex, first, codes, next, numbers, reached.at);

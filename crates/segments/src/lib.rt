@@ -1,6 +1,7 @@
-// How many numbers the path of a vertex list has, counted without writing it: two for each line and six for each cubic. Each
-// vertex is carried over from segment to segment, as where they are written. After the cubics that a list begins with, no branch
-// hangs on which of the two a segment is: a list of both kinds is counted as fast as one of lines.
+// How many numbers the path of a vertex list has, counted without writing it: two for each line and six for each cubic. The cubics
+// that a list begins with are passed over, four at a time. From there on each vertex is carried over from segment to segment, as
+// where they are written, and no branch hangs on which of the two a segment is: a list of both kinds is counted as fast as one of
+// lines.
 use path::BezierVertex;
 use path::Reached;
 ghost use mathlib.Core.Path.{_≡_};
@@ -18,7 +19,8 @@ fn leaves(vertices: &[f32], j: usize) -> bool
     ensures { λ r. ⌜ r ≡ leaves (vertexAt (now (vertices .entry)) j) ⌝ }
 {
     let i = 6 * j;
-    !path::approx_eq(vertices[i], vertices[i] + vertices[i + 4])
+    let x = vertices[i];
+    !path::approx_eq(x, x + vertices[i + 4])
 }
 
 // Whether it is at four vertices from j on.
@@ -61,8 +63,8 @@ fn vertex_from(first: BezierVertex, vertices: &[f32], j: usize) -> BezierVertex
     }
 }
 
-// How many numbers a move and the segments between the vertices have, and the last vertex. The place after a segment is that
-// after its end, by which the compiler tests the four coordinates of a segment together.
+// How many numbers a move and the segments between the vertices have, and the last vertex. They are counted by the place of a
+// segment's end: so the compiler keeps the loop as it is, and tests the four differences of a segment together.
 fn numbers_between(first: BezierVertex, vertices: &[f32], count: usize) -> Reached
     requires { ⌜ Sound (now vertices) count ⌝ }
     requires { ⌜ first ≡ vertexAt (now vertices) 0 ⌝ }

@@ -1,4 +1,4 @@
-// A drawing of any kind: what it needs of two buffers, and its commands written to them, one at a time.
+// A drawing of any kind: what it needs of two buffers, and its commands written to them.
 use command::Counts;
 use command::Refusal;
 use command::Size;
@@ -156,7 +156,7 @@ pub fn write_at(
 {
     match shape {
         Shape::Path(closed, count) => {
-            segment_writer::write_path(closed, count, list, codes, i, numbers, j)
+            segment_writer::write_path(closed, list, count, codes, i, numbers, j)
         }
         Shape::Rect(radius) => write_rect(radius, list, codes, i, numbers, j),
         Shape::Ellipse => write_ellipse(list, codes, i, numbers, j),

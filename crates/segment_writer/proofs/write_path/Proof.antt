@@ -31,23 +31,31 @@ add-next c = search needs
 
 write-back-requires : tie.Need-write-back-requires
 write-back-requires c κs =
-    let start = c .before .before .before .before .before .before .before .before .before .before .before .before .before .before .before in
+    let decided = c .before .before in
+    let opened = decided .before .before .before .before .before in
+    let begun = opened .before .before .before .before in
+    let start = begun .before .before .before .before in
     let A = start .args in
     let P = start .pre in
-    let E = c .before .before .before .before .before .before .before .write-open .ensures in
-    let first-is = c .before .before .before .before .before .before .before .before .before .before .before .vertex-at .ensures in
-    let more = c .before .before .before .before .before .before .before .before .before .before .if1 .left in
-    let shut = c .before .before .if2 .taken in (
-      back-codes-room (A .closed) (now (A .list)) (A .count) (P .0) more (A .i) (now (A .codes)) shut _ (E .1 .1 .0) (P .1 .0),
-      back-numbers-room (A .closed) (now (A .list)) (A .count) (P .0) more (A .j) (now (A .numbers)) shut _ _ (E .0) first-is _ (E .1 .0) _ (E .1 .1 .1) (P .1 .1),
+    let E = opened .write-open .ensures in
+    let v = now (A .vertices) in
+    let more = opened .before .before .before .if1 .left in
+    let shut = decided .if2 .taken in
+    let first-is = begun .vertex-at .ensures in (
+      back-codes-room (A .closed) v (A .count) (P .0) more (A .i) (now (A .codes)) shut _ (E .1 .1 .0) (P .1 .0),
+      back-numbers-room (A .closed) v (A .count) (P .0) more (A .j) (now (A .numbers)) shut _ _ (E .0) first-is _ (E .1 .0) _ (E .1 .1 .1)
+          (P .1 .1),
     )
 
 add-t27 : tie.Need-add-t27
 add-t27 c =
-    let start = c .before .before .before .before .before .before .before .before .before .before .before .before .before .before .before .before .before .before .before .before in
+    let decided = c .before .before .before .before .before .before .before in
+    let several = decided .before .before .before .before .before .before .before .before in
+    let start = several .before .before .before .before .before in
     let A = start .args in
     let P = start .pre in
-    closed-fits (A .closed) (now (A .list)) (A .count) (P .0) (c .before .before .before .before .before .before .before .before .before .before .before .before .before .before .before .if1 .left) (A .i) (now (A .codes)) (c .before .before .before .before .before .before .before .if2 .taken) (P .1 .0) (search needs)
+    closed-fits (A .closed) (now (A .vertices)) (A .count) (P .0) (several .if1 .left) (A .i) (now (A .codes)) (decided .if2 .taken) (P .1 .0)
+    (search needs)
 
 same-length-3 : tie.Need-same-length-3
 same-length-3 c = search needs

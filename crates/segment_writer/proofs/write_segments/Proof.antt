@@ -6,10 +6,10 @@ use Rattle.segment_writer.proofs.write_segments.Statement.{statement}
 use Rattle.segment_writer.proofs.write_segments.Tie as tie
 
 abbrev Inv-loop : tie.InvT-loop
-Inv-loop count list codes₀ i numbers₀ j last a₀ at₀ k₀ codes numbers a at k = Carried list count i j codes₀ numbers₀ codes numbers a at k
+Inv-loop vertices count codes₀ i numbers₀ j last a₀ at₀ k₀ codes numbers a at k = Carried vertices count i j codes₀ numbers₀ codes numbers a at k
 
 abbrev μ-loop : tie.MeasureT-loop
-μ-loop count list codes₀ i numbers₀ j last a₀ at₀ k₀ codes numbers a at k = last - k
+μ-loop vertices count codes₀ i numbers₀ j last a₀ at₀ k₀ codes numbers a at k = last - k
 
 sub-last : tie.Need-sub-last Inv-loop μ-loop
 sub-last c = search (needs, carries)

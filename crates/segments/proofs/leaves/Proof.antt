@@ -1,32 +1,26 @@
 -- `segments::leaves` meets its contract. Assumes nothing.
-use borrow.Author.Needs.{needs}
 use Rattle.segments.proofs.Ways.{leavings}
+use borrow.Author.Needs.{needs}
 use Rattle.segments.proofs.leaves.Statement.{statement}
 use Rattle.segments.proofs.leaves.Tie as tie
 
 mul-i : tie.Need-mul-i
 mul-i c = search needs
 
+mul-x : tie.Need-mul-x
+mul-x c = search needs
+
+shared-slice-read-x : tie.Need-shared-slice-read-x
+shared-slice-read-x c = search needs
+
+add-approx-eq : tie.Need-add-approx-eq
+add-approx-eq c = search needs
+
 mul-approx-eq : tie.Need-mul-approx-eq
 mul-approx-eq c = search needs
 
 shared-slice-read-approx-eq : tie.Need-shared-slice-read-approx-eq
 shared-slice-read-approx-eq c = search needs
-
-mul-approx-eq-2 : tie.Need-mul-approx-eq-2
-mul-approx-eq-2 c = search needs
-
-shared-slice-read-approx-eq-2 : tie.Need-shared-slice-read-approx-eq-2
-shared-slice-read-approx-eq-2 c = search needs
-
-add-approx-eq : tie.Need-add-approx-eq
-add-approx-eq c = search needs
-
-mul-approx-eq-3 : tie.Need-mul-approx-eq-3
-mul-approx-eq-3 c = search needs
-
-shared-slice-read-approx-eq-3 : tie.Need-shared-slice-read-approx-eq-3
-shared-slice-read-approx-eq-3 c = search needs
 
 approx-eq-requires : tie.Need-approx-eq-requires
 approx-eq-requires c κs = search needs
@@ -39,12 +33,10 @@ leaves-spec =
     tie.close
     (tie.spec
     mul-i
+    mul-x
+    shared-slice-read-x
+    add-approx-eq
     mul-approx-eq
     shared-slice-read-approx-eq
-    mul-approx-eq-2
-    shared-slice-read-approx-eq-2
-    add-approx-eq
-    mul-approx-eq-3
-    shared-slice-read-approx-eq-3
     approx-eq-requires
     returns)

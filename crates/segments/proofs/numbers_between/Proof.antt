@@ -1,7 +1,7 @@
 -- `segments::numbers_between` meets its contract. Assumes nothing.
 use borrow.Author.Needs.{needs}
 use Prim.Native.Nat.{_-_}
-use Rattle.segments.proofs.Ways.{Tally, tallies}
+use Rattle.segments.proofs.Ways.{Tally, tallies, tally-more}
 use Rattle.segments.proofs.numbers_between.Statement.{statement}
 use Rattle.segments.proofs.numbers_between.Tie as tie
 
@@ -51,7 +51,12 @@ loop-less : tie.Need-loop-less Inv-loop μ-loop
 loop-less c = search (needs, tallies)
 
 loop-again : tie.Need-loop-again Inv-loop μ-loop
-loop-again c = search (needs, tallies)
+loop-again c =
+    let line = c .before in
+    let next = line .before in
+    let within = next .before in
+    tally-more _ _ (search needs) _ _ _ (within .before .loop .inv) _ _ _ (line .is-line .ensures) (c .end-place .ensures) (within .loop-test .taken)
+    (next .vertex-at .ensures)
 
 returns : tie.Need-returns Inv-loop μ-loop
 returns c = (search (needs, tallies), search (needs, tallies))
