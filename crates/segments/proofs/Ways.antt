@@ -105,6 +105,14 @@ pub ruleset passings = (passed-start, place-fits, four-inside, passed-four)
 pub vertex-first : (v : List Float) (first : BezierVertex) (j : ℕ) → first ≡ vertexAt v 0 → j ≡ 0 → first ≡ vertexAt v j
 vertex-first v first j e h = rw h e
 
+-- the place after a segment's end fits where a cubic's would
+after-end-fits : (at : ℕ) (t : Bool) (end : ℕ) → at + 6 < 2 ^ 64 → end ≡ cond t at (at + 4) → Fits w64 (end + 2)
+after-end-fits at t end h e = record { fits = rw e (go t) }
+  where
+    go : (u : Bool) → cond u at (at + 4) + 2 < 2 ^ 64
+    go true = omega arith
+    go false = omega arith
+
 -- ---- numbers_between
 -- the numbers up to vertex j, which is a, and those from it on, are all
 pub record Tally (v : List Float) (count : ℕ) (a : BezierVertex) (j at : ℕ) : Type 0 where
@@ -139,11 +147,7 @@ module _ (v : List Float) (count : ℕ) (s : Sound v count) where
     four-fits = omega (arith, s .few, T .inside, T .few)
 
     pub end-fits : (t : Bool) (end : ℕ) → end ≡ cond t at (at + 4) → Fits w64 (end + 2)
-    end-fits t end e = record { fits = rw e (go t) }
-      where
-        go : (u : Bool) → cond u at (at + 4) + 2 < 2 ^ 64
-        go true = omega (arith, s .few, T .inside, T .few)
-        go false = omega (arith, s .few, T .inside, T .few)
+    end-fits t end e = after-end-fits at t end (omega (arith, s .few, T .inside, T .few)) e
 
     module _ (b : BezierVertex) (t : Bool) (end : ℕ) (t-is : t ≡ isLine a b) (end-is : end ≡ cond t at (at + 4)) where
       pub tally-more : j + 1 < count → b ≡ vertexAt v (j + 1) → Tally v count b (j + 1) (end + 2)
@@ -176,11 +180,7 @@ module _ (closed : ℕ) (v : List Float) (count : ℕ) (s : Sound v count) where
     back-fits = omega (arith, numbers-few (segmentsBetween v count), between-length v count, s .few)
 
     pub closed-fits : (t : Bool) (end : ℕ) → end ≡ cond t at (at + 4) → Fits w64 (end + 2)
-    closed-fits t end e = record { fits = rw e (go t) }
-      where
-        go : (u : Bool) → cond u at (at + 4) + 2 < 2 ^ 64
-        go true = omega (arith, back-fits)
-        go false = omega (arith, numbers-few (segmentsBetween v count), between-length v count, s .few)
+    closed-fits t end e = after-end-fits at t end (omega (arith, numbers-few (segmentsBetween v count), between-length v count, s .few)) e
 
     module _ (more : count ≡ 1 → ⊥) where
       several : 1 < count
