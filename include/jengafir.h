@@ -14,18 +14,17 @@ extern "C" {
 enum jengafir_refusal {
     JENGAFIR_ACCEPTED = 0,          /* the answer is written */
     JENGAFIR_EMPTY = 1,             /* empty input: no vertices, or no item rows */
-    JENGAFIR_TOO_MANY = 2,          /* too many vertices, points, rows, levels, commands or copies, or an offset over 4,096 */
+    JENGAFIR_TOO_MANY = 2,          /* too many vertices, rows, levels, commands or copies, or an offset over 4,096 */
     JENGAFIR_OUT_OF_RANGE = 3,      /* a number that is not finite, or over its limit */
     JENGAFIR_UNLISTED = 4,          /* a code, flag or mode that is not listed */
-    JENGAFIR_UNSUPPORTED = 5,       /* no longer given: every shape is drawn */
+    JENGAFIR_UNSUPPORTED = 5,       /* a polystar */
     JENGAFIR_BROKEN_NESTING = 6,    /* the first row is nested, or a row lies deeper than the row before it allows */
     JENGAFIR_NOT_MERGEABLE = 7,     /* no row merges the rows before it */
     JENGAFIR_TOO_SHORT = 8,         /* a path too short to be cut */
     JENGAFIR_NO_SUCH_COPY = 9,      /* a copy index that is not below the number of copies */
     JENGAFIR_NOT_FINITE = 10,       /* a copy whose matrix or opacity is not finite */
     JENGAFIR_BUFFER_TOO_SMALL = 11, /* the codes or the numbers of the answer do not fit */
-    JENGAFIR_OUT_OF_BOUNDS = 12,    /* entries needed past the end of a list, numbers left over, or no such command */
-    JENGAFIR_DEGENERATE_STAR = 13   /* a polystar of too few points, or with a radius of next to nothing */
+    JENGAFIR_OUT_OF_BOUNDS = 12     /* entries needed past the end of a list, numbers left over, or no such command */
 };
 
 /* The codes of path commands. The numbers of a command stand in this order in the list of numbers. */
@@ -42,7 +41,7 @@ enum jengafir_kind {
     JENGAFIR_SH = 1,    /* a path: its vertices, six numbers each as jengafir_draw_path reads them */
     JENGAFIR_RC = 2,    /* a rectangle: centre x, y; width, height; roundness */
     JENGAFIR_EL = 3,    /* an ellipse: centre x, y; width, height */
-    JENGAFIR_SR = 4,    /* a polystar: centre x, y; points; outer, inner radius; outer, inner roundness; rotation */
+    JENGAFIR_SR = 4,    /* a polystar, which is not drawn yet */
     JENGAFIR_GR = 5,    /* a group: the rows after it that are deeper are in it */
     JENGAFIR_TR = 6,    /* a transform */
     JENGAFIR_FL = 7,    /* a fill */
@@ -53,15 +52,6 @@ enum jengafir_kind {
     JENGAFIR_RP = 12,   /* a repeater */
     JENGAFIR_MM = 13,   /* a merge */
     JENGAFIR_OTHER = 14 /* any other item */
-};
-
-/* The mark of a polystar: a star or a polygon, whose points go round clockwise (y points down), or against the clock where
-   Lottie's direction is 3. */
-enum jengafir_polystar {
-    JENGAFIR_STAR = 1,
-    JENGAFIR_POLYGON = 2,
-    JENGAFIR_STAR_REVERSED = 5,
-    JENGAFIR_POLYGON_REVERSED = 6
 };
 
 /* Of every function: the calling thread rounds to nearest and does not flush subnormal numbers to zero. So a program
@@ -84,30 +74,22 @@ uint32_t jengafir_draw_path(uint32_t closed, const float *vertices, size_t verti
                             size_t *codes_written, size_t *numbers_written);
 
 /* Draws the shape of one item row, also where the row is hidden.
-   A row is six entries: kind, hidden (0 or 1), depth (not read here), mark (for a path 0 if open and 1 if closed, for a
-   polystar one of enum jengafir_polystar, else 0), place (where the row's numbers start in `items`), and count (the
-   number of a path's vertices, else 0).
+   A row is six entries: kind, hidden (0 or 1), depth (not read here), mark (for a path 0 if open and 1 if closed,
+   else 0), place (where the row's numbers start in `items`), and count (the number of a path's vertices, else 0).
    Every number is at most 1,048,576 in absolute value.
    Widths and heights are taken without their signs. A rectangle begins at the left of its upper side and goes round
    clockwise, by the right (y points down): five commands with sharp corners, ten with round ones. An ellipse begins at
    the top and goes round clockwise, by right, bottom and left: a move, four cubics and a close, flat where a side is 0.
-   A polystar of n points, of which a fraction is dropped, is a closed path: a star has n outer points and n inner ones
-   in turn, a polygon n outer ones, for which the inner radius and roundness are not used. It begins at the top, turned
-   by the rotation in degrees, clockwise and rounded to a sixteenth of a degree, as is the place of every point. Radii
-   are taken without their signs. Roundness is in percent: where it is 0 the sides are lines. The commands of a polystar
-   may have numbers over 4,194,304, where its roundness is large; jengafir_length and its neighbours then refuse them.
    Reads the first six entries of `row`, and of `items` the numbers of this row alone.
    Refuses a row list of fewer than six entries with 12, and then by the first of these that holds: 4 for an entry
-   of the row, a kind that is no shape among them, 1, 2, 12, 3; for a polystar then 2 for more than 512 points, and 13
-   for fewer than 2 points of a star or 3 of a polygon or for a radius, of those that are used, of at most 2^-23; the
-   last is 11. */
+   of the row, a kind that is no shape among them, 5, 1, 2, 12, 3, 11. */
 uint32_t jengafir_draw_item(const uint32_t *row, size_t row_len, const float *items, size_t items_len,
                             uint8_t *codes, size_t codes_len, float *numbers, size_t numbers_len,
                             size_t *codes_written, size_t *numbers_written);
 
 /* Joins the sources of a merge: the commands of each, one source after the other.
-   A row is six entries: kind, hidden (0 or 1), depth, mark (for a merge its mode from 0 to 255, else as for
-   jengafir_draw_item), place and count as for jengafir_draw_item. The first row is at depth 0. A row is at most one
+   A row is six entries: kind, hidden (0 or 1), depth, mark (for a path 0 if open and 1 if closed, for a merge its mode
+   from 0 to 255, else 0), place and count as for jengafir_draw_item. The first row is at depth 0. A row is at most one
    deeper than the row before it, and deeper only where that is a group, which it then is in.
    The merge is the first visible row of kind mm and mode 1 at depth 0. At depth 0, the visible rows before it are
    sources (sh, rc, el, sr), tr, and empty groups, with two sources or more; those after it are fl, st, gf, gs, tr, tm,
@@ -116,7 +98,7 @@ uint32_t jengafir_draw_item(const uint32_t *row, size_t row_len, const float *it
    Reads the first 6 * row_count entries of `rows`, 1 to 256 rows, and of `items` the numbers of the sources alone.
    Refuses, by the first of these that holds: 1 for no rows; 2 for more than 256; 12 for a row list that is too short;
    2 for a depth over 8; 4 for an entry of a row; 6 for the nesting; 7 if there is no such merge. Then the first faulty
-   source counts, by 1, 2, 12, 3 and for a polystar 2, 13 as for jengafir_draw_item. The last is 11. */
+   source counts, by 5, 1, 2, 12, 3 as for jengafir_draw_item. The last is 11. */
 uint32_t jengafir_merge(const uint32_t *rows, size_t rows_len, size_t row_count, const float *items, size_t items_len,
                         uint8_t *codes, size_t codes_len, float *numbers, size_t numbers_len,
                         size_t *codes_written, size_t *numbers_written);
@@ -132,7 +114,7 @@ uint32_t jengafir_tray_need(uint32_t closed, const float *vertices, size_t verti
                             size_t *codes_needed, size_t *numbers_needed);
 
 /* What jengafir_draw_item writes. Refuses a row list of fewer than six entries with 12, and then by the first of these
-   that holds: 4, 1, 2, 12, 3, and for a polystar 2, 13. */
+   that holds: 4, 5, 1, 2, 12, 3. */
 uint32_t jengafir_item_need(const uint32_t *row, size_t row_len, const float *items, size_t items_len,
                             size_t *codes_needed, size_t *numbers_needed);
 
@@ -156,8 +138,7 @@ uint32_t jengafir_merge_need(const uint32_t *rows, size_t rows_len, size_t row_c
    A list has at most 262,144 commands, and every number is at most 4,194,304 in absolute value; an empty list is
    legal. A list is refused with 2 if it is longer; else by its first faulty command, with 4 for its code, 12 if the
    list has not all of its numbers, or 3; and else with 12 if numbers are left over. Only jengafir_length_reaches may
-   stop before a fault. What jengafir_draw_path, jengafir_draw_item and jengafir_merge write is never
-   refused, unless a polystar is among it. */
+   stop before a fault. What jengafir_draw_path, jengafir_draw_item and jengafir_merge write is never refused. */
 
 /* Puts the length of a path down in `length`: 32 chords a cubic, 24 a quad, and a close back to where its contour
    started. Without a point to come from, a line or a curve adds nothing; it sets the point, and its contour has no

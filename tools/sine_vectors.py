@@ -11,7 +11,7 @@ nothing is given. The vectors of repeaters take their sines and cosines from her
                                                         exit 1 where a number differs
 
 Without files those of the crate sine are compared: the table that is compiled and the one that is
-proved. In a file, 50 numbers or more in a row, with a comma or a cons sign after each, are a part of
+proved. In a file, 100 numbers or more in a row, with a comma or a cons sign after each, are a part of
 its table, and the parts one after another are the table.
 """
 
@@ -30,7 +30,7 @@ TURN = 4 * QUARTER
 SCALE = 2**30
 
 # So many numbers in a row are a part of a table.
-PART_OF_TABLE = 50
+PART_OF_TABLE = 100
 
 # Numbers between the whole ones are given in parts of 10^-60.
 PART = 10**60

@@ -1,4 +1,4 @@
--- Laws of outcomes: whatever holds of every refusal and of the answer behind the checks holds of the whole, and no refusal has the number 0 or 5.
+-- Laws of outcomes: whatever holds of every refusal and of the answer behind the checks holds of the whole, and no refusal has the number 0.
 -- Assumes nothing.
 use Prim.Native.Nat.{ℕ, ◌<◌}
 use native.Mathlib.Omega.{arith}
@@ -6,10 +6,10 @@ use mathlib.Core.Path.{◌≡◌, refl, sym, subst}
 use mathlib.Core.Bool.{Bool, true, false, cond}
 use mathlib.Core.List.{List, [], ◌∷◌}
 use Rattle.command.specs.declared.Refusal.{Refusal}
-use Rattle.command.specs.declared.Refusal.TheVariants.{Empty, TooMany, OutOfRange, Unlisted, BrokenNesting}
-use Rattle.command.specs.declared.Refusal.TheVariants.{NotMergeable, TooShort, NoSuchCopy, NotFinite, BufferTooSmall, OutOfBounds, DegenerateStar}
+use Rattle.command.specs.declared.Refusal.TheVariants.{Empty, TooMany, OutOfRange, Unlisted, Unsupported, BrokenNesting}
+use Rattle.command.specs.declared.Refusal.TheVariants.{NotMergeable, TooShort, NoSuchCopy, NotFinite, BufferTooSmall, OutOfBounds}
 use Rattle.command.specs.declared.Counts.{Counts}
-use Rattle.command.specs.Refusals.{refusal_number, FiveIsNeverGiven}
+use Rattle.command.specs.Refusals.{refusal_number}
 use Rattle.command.specs.Outcomes.{Outcome, refused, accepted, number_of, value_or, Check, checked, AllPass, Counted, counts_of}
 
 -- a refusal is no answer
@@ -51,6 +51,7 @@ number_some Empty = omega arith
 number_some TooMany = omega arith
 number_some OutOfRange = omega arith
 number_some Unlisted = omega arith
+number_some Unsupported = omega arith
 number_some BrokenNesting = omega arith
 number_some NotMergeable = omega arith
 number_some TooShort = omega arith
@@ -58,22 +59,6 @@ number_some NoSuchCopy = omega arith
 number_some NotFinite = omega arith
 number_some BufferTooSmall = omega arith
 number_some OutOfBounds = omega arith
-number_some DegenerateStar = omega arith
-
--- and none the number 5
-pub five_never : FiveIsNeverGiven
-five_never Empty e = omega arith
-five_never TooMany e = omega arith
-five_never OutOfRange e = omega arith
-five_never Unlisted e = omega arith
-five_never BrokenNesting e = omega arith
-five_never NotMergeable e = omega arith
-five_never TooShort e = omega arith
-five_never NoSuchCopy e = omega arith
-five_never NotFinite e = omega arith
-five_never BufferTooSmall e = omega arith
-five_never OutOfBounds e = omega arith
-five_never DegenerateStar e = omega arith
 
 -- so what hands back 0 has an answer
 pub answered : {A : Type 0} (o : Outcome A) → 0 ≡ number_of o → (a : A) → o ≡ accepted (value_or a o)

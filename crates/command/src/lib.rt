@@ -22,6 +22,7 @@ pub enum Refusal {
     TooMany,
     OutOfRange,
     Unlisted,
+    Unsupported,
     BrokenNesting,
     NotMergeable,
     TooShort,
@@ -29,7 +30,6 @@ pub enum Refusal {
     NotFinite,
     BufferTooSmall,
     OutOfBounds,
-    DegenerateStar,
 }
 
 // Two counts that a call tells, or why it tells none: the codes and numbers that a drawing needs or has
@@ -63,6 +63,7 @@ pub fn refusal_number(refusal: Refusal) -> u32
         Refusal::TooMany => 2,
         Refusal::OutOfRange => 3,
         Refusal::Unlisted => 4,
+        Refusal::Unsupported => 5,
         Refusal::BrokenNesting => 6,
         Refusal::NotMergeable => 7,
         Refusal::TooShort => 8,
@@ -70,7 +71,6 @@ pub fn refusal_number(refusal: Refusal) -> u32
         Refusal::NotFinite => 10,
         Refusal::BufferTooSmall => 11,
         Refusal::OutOfBounds => 12,
-        Refusal::DegenerateStar => 13,
     }
 }
 

@@ -8,7 +8,7 @@ use native.Mathlib.Omega.{arith}
 use lib.Dec.{T}
 use lib.Ieee.{Float, binary32, add, sub, mul, div, neg, of_int, of_bits, of_fields, round, sum, size, units, odd, span, climb}
 use lib.Ieee.Fits.{and_l, and_r}
-use Rattle.ieee.specs.Literal.{one32, two32}
+use Rattle.ieee.specs.Literal.{one32}
 use Rattle.ieee.specs.Operators.{◌⊖◌, ◌⊗◌}
 use Rattle.ieee.specs.Fused.{fma}
 use Rattle.ieee.specs.Grid.{on, On, Twin}
@@ -17,7 +17,7 @@ use Rattle.ieee.proofs.Grid.{on→On}
 use Rattle.ieee.proofs.Twins.{finer, zero_twin, twin_add_absorb, twin_sub, twin_mul_right, twin_fma}
 use Rattle.ieee.proofs.Hypot.{twin_hypot}
 use Rattle.point.specs.declared.Point.{Point}
-use Rattle.curve.specs.Curve.{three32, squared, cubed, distance, quad_at, eval_quad, cubic_at, eval_cubic, step_of, quad_point, cubic_point, chords, quad_length_after, cubic_length_after}
+use Rattle.curve.specs.Curve.{two32, three32, squared, cubed, distance, quad_at, eval_quad, cubic_at, eval_cubic, step_of, quad_point, cubic_point, chords, quad_length_after, cubic_length_after}
 
 -- p' is p with both coordinates times 2 ^ k, and those of p are on the grid
 pub record PointTwin (k q b : ℕ) (p p' : Point) : Type 0 where

@@ -12,7 +12,7 @@ use lib.Ieee.{Float, div, le, fits, round, units, size, span, climb, odd, of_int
 use lib.Ieee.Fits.{add-fits}
 use lib.Ieee.Order.{round_mono}
 use lib.Ieee.Positive.{positive}
-use Rattle.ieee.specs.Literal.{zero32, one32, two32}
+use Rattle.ieee.specs.Literal.{zero32, one32}
 use Rattle.ieee.specs.Operators.{◌⊖◌, ◌⊗◌}
 use Rattle.ieee.specs.Limit.{Bounded}
 use Rattle.ieee.specs.Fused.{fma}
@@ -20,7 +20,7 @@ use Rattle.ieee.proofs.Order as Order
 use Rattle.ieee.proofs.Monotone.{add_ge, div_le}
 use Rattle.ieee.proofs.Bounds.{Reach, reach_pow, reach_whole, reach_absorb, zero_bounded, bounded_finite, bounded_number, bounded_between, bounded_weaken, add_bounded, sub_bounded, mul_bounded, fma_bounded, hypot_bounded, hypot_plus}
 use Rattle.point.specs.declared.Point.{Point}
-use Rattle.curve.specs.Curve.{three32, squared, cubed, distance, quad_at, eval_quad, cubic_at, eval_cubic, step_of, quad_point, cubic_point, chords, quad_length_after, cubic_length_after}
+use Rattle.curve.specs.Curve.{two32, three32, squared, cubed, distance, quad_at, eval_quad, cubic_at, eval_cubic, step_of, quad_point, cubic_point, chords, quad_length_after, cubic_length_after}
 
 -- both coordinates are at most n
 pub record Inside (n : ℕ) (p : Point) : Type 0 where

@@ -6,12 +6,12 @@ use mir.Val.{Fits}
 use mir.Syntax.{w16}
 use lib.Ieee.{Float, binary32}
 use borrow.Author.Count.{falls}
-use Rattle.ieee.specs.Literal.{one32, two32}
+use Rattle.ieee.specs.Literal.{one32}
 use Rattle.ieee.specs.Fused.{fma}
 use Rattle.ieee.specs.Root.{hypot_of}
 use Rattle.point.specs.declared.Point.{Point}
 use Rattle.ieee.specs.Operators.{◌⊖◌, ◌⊗◌}
-use Rattle.curve.specs.Curve.{three32, squared, cubed, distance, quad_at, eval_quad, cubic_at, eval_cubic}
+use Rattle.curve.specs.Curve.{two32, three32, squared, cubed, distance, quad_at, eval_quad, cubic_at, eval_cubic}
 use Rattle.curve.proofs.Chords.{chordwise}
 
 pub distance_is : (a b : Point) (r : Float) → r ≡ hypot_of binary32 (b.x ⊖ a.x) (b.y ⊖ a.y) → r ≡ distance a b

@@ -3,11 +3,15 @@
 use Rattle.std.specs.Prelude.{ℕ, zero, suc, pos, Float}
 use Rattle.std.specs.Float.Ieee.{div, of_int, of_bits}
 use Rattle.std.specs.Float.{binary32}
-use Rattle.ieee.specs.Literal.{zero32, one32, two32}
+use Rattle.ieee.specs.Literal.{zero32, one32}
 use Rattle.ieee.specs.Operators.{◌⊕◌, ◌⊖◌, ◌⊗◌}
 use Rattle.ieee.specs.Fused.{fma}
 use Rattle.ieee.specs.Root.{hypot_of}
 use Rattle.point.specs.declared.Point.{Point}
+
+-- 2.0
+abbrev pub two32 : Float
+two32 = of_bits binary32 0x4000_0000
 
 -- 3.0
 abbrev pub three32 : Float

@@ -1,7 +1,7 @@
--- A drawing of enlarged items is the enlarged drawing, where no polystar is drawn: the refusals are the same, and every number of the commands is multiplied. What is not read may
+-- A drawing of enlarged items is the enlarged drawing: the refusals are the same, and every number of the commands is multiplied. What is not read may
 -- differ freely. Assumes nothing.
-use mathlib.Core.Path.{◌≡◌, sym, subst, ◌∙◌}
-use mathlib.Core.Bool.{true, false, true≢false}
+use mathlib.Core.Path.{◌≡◌, sym, subst}
+use mathlib.Core.Bool.{true, false}
 use mathlib.Core.List.{List, [], ◌∷◌}
 use Prim.Native.Nat.{ℕ, zero, suc, ◌+◌, ◌*◌, ◌^◌, ◌≤◌, ◌<◌}
 use native.Mathlib.Nat.{le_refl, zero-lt-suc}
@@ -25,13 +25,13 @@ use Rattle.shape.specs.declared.Shape.{Shape}
 use Rattle.shape.specs.declared.Shape.TheVariants.{Path, Ellipse}
 use Rattle.shape.specs.Shape.{shape_commands}
 use Rattle.item.specs.declared.ItemRow.{ItemRow}
-use Rattle.item.specs.Rows.{item_row, is_path, is_polystar, entries_of}
+use Rattle.item.specs.Rows.{item_row, is_path, entries_of}
 use Rattle.draw.specs.Checks.{coordinate_limit}
 use Rattle.draw.specs.Paths.{path_checks, draw_path}
-use Rattle.draw.specs.Items.{rect_of, polystar_shape, source_checks, shape_drawn, draw_source, item_checks, draw_item}
+use Rattle.draw.specs.Items.{rect_of, source_checks, shape_drawn, draw_source, item_checks, draw_item}
 use Rattle.draw.proofs.ByKind.{kinds_relate}
 use Rattle.draw.proofs.Sources.{source_passed, path_passed}
-use Rattle.draw.proofs.Limits.{limit_value}
+use Rattle.draw.proofs.Sound.{limit_value}
 
 -- ---- the limit: 2 ^ 13 on the grid, and 2 ^ 19 after the enlargement, are below it
 all_bounded_take : (n k : ℕ) (xs : List Float) → ((i : ℕ) → i < k → i < length xs → Bounded n (get_or xs i nan)) → AllBounded n (take k xs)
@@ -80,10 +80,10 @@ module _ (k : ℕ) (K : k ≤ 6) (closed count : ℕ) (v v' : List Float) (same 
 
 -- ---- a row with listed entries
 -- a shape whose numbers stand at the start of v, kind by kind
-shape_twins : (k : ℕ) → k ≤ 6 → (row : ItemRow) → is_polystar row ≡ false → (v v' : List Float) → ((i : ℕ) → i < entries_of row → Twin k 10 13 (get_or v i nan) (get_or v' i nan))
+shape_twins : (k : ℕ) → k ≤ 6 → (row : ItemRow) (v v' : List Float) → ((i : ℕ) → i < entries_of row → Twin k 10 13 (get_or v i nan) (get_or v' i nan))
     → DrawingTwin k 35 16 (shape_drawn row v) (shape_drawn row v')
 unfolding shape_drawn shape_commands
-shape_twins k K row other v v' twins = kinds_relate Alike row v v' path rectangle ellipse polystar (λ r. drawing_refused r)
+shape_twins k K row v v' twins = kinds_relate Alike row v v' path rectangle ellipse (λ r. drawing_refused r)
   where
     Alike : Outcome Shape → Outcome Shape → Type 0
     Alike o o' = DrawingTwin k 35 16 (mapped (λ (s : Shape). shape_commands s v) o) (mapped (λ (s : Shape). shape_commands s v') o')
@@ -104,10 +104,7 @@ shape_twins k K row other v v' twins = kinds_relate Alike row v v' path rectangl
     ellipse : is_path row ≡ false → entries_of row ≡ 4 → Alike (accepted Ellipse) (accepted Ellipse)
     ellipse p e = let at = first 4 e in drawing_accepted (ellipse_twins K (at 0 (lit< tt)) (at 1 (lit< tt)) (at 2 (lit< tt)) (at 3 (lit< tt)))
 
-    polystar : is_polystar row ≡ true → entries_of row ≡ 8 → Alike (polystar_shape row.mark v) (polystar_shape row.mark v')
-    polystar p e = absurd (true≢false (sym p ∙ other))
-
-module _ (k : ℕ) (K : k ≤ 6) (row : ItemRow) (other : is_polystar row ≡ false) (items items' : List Float) (same : length items' ≡ length items)
+module _ (k : ℕ) (K : k ≤ 6) (row : ItemRow) (items items' : List Float) (same : length items' ≡ length items)
     (twins : (i : ℕ) → row.place ≤ i → i < row.place + entries_of row → i < length items → Twin k 10 13 (get_or items i nan) (get_or items' i nan)) where
   abbrev v : List Float
   v = drop row.place items
@@ -135,11 +132,11 @@ module _ (k : ℕ) (K : k ≤ 6) (row : ItemRow) (other : is_polystar row ≡ fa
       (drawing_checked (source_checks row items)
       (λ pass.
       let inside = (source_passed row items pass).inside in
-      shape_twins k K row other v v' (λ i h. dropped_twins i h (omega (arith, length-drop row.place items)))))
+      shape_twins k K row v v' (λ i h. dropped_twins i h (omega (arith, length-drop row.place items)))))
 
 -- ---- an item row
-pub item_outcome : (k : ℕ) → k ≤ 6 → (row : List ℕ) → is_polystar (item_row row 0) ≡ false → (items items' : List Float) → length items' ≡ length items
+pub item_outcome : (k : ℕ) → k ≤ 6 → (row : List ℕ) (items items' : List Float) → length items' ≡ length items
     → ((i : ℕ) → (item_row row 0).place ≤ i → i < (item_row row 0).place + entries_of (item_row row 0) → i < length items → Twin k 10 13 (get_or items i nan) (get_or items' i nan))
     → DrawingTwin k 35 16 (draw_item row items) (draw_item row items')
 unfolding draw_item
-item_outcome k K row other items items' same twins = drawing_checked (item_checks row) (λ pass. source_outcome k K (item_row row 0) other items items' same twins)
+item_outcome k K row items items' same twins = drawing_checked (item_checks row) (λ pass. source_outcome k K (item_row row 0) items items' same twins)

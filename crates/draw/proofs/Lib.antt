@@ -1,8 +1,6 @@
 -- What the proofs of `draw` cite.
-pub mod Limits
 pub mod Ways
 pub mod ByKind
-pub mod Polystars
 pub mod Sources
 pub mod Sound
 pub mod Single

@@ -10,16 +10,14 @@ use lib.ListN.{length, get_or, take, drop, length-drop, length-take}
 use lib.Seq.{get_or-take, get_or-drop, ext_get_or}
 use Rattle.command.specs.declared.PathCommand.{PathCommand}
 use Rattle.command.specs.Outcomes.{Outcome, accepted, mapped, Check, checked}
-use Rattle.command.proofs.Outcomes.{checks_hold, checks_relate}
-use Rattle.polystar.specs.Polystar.{point_count, polystar_path}
-use Rattle.polystar.proofs.Single.{polystar_read}
+use Rattle.command.proofs.Outcomes.{checks_relate}
 use Rattle.path.specs.Path.{vertex_at, vertices_of, bezier_path, path_commands}
 use Rattle.shape.specs.declared.Shape.{Shape}
-use Rattle.shape.specs.declared.Shape.TheVariants.{Path, Ellipse, Polystar}
+use Rattle.shape.specs.declared.Shape.TheVariants.{Path, Ellipse}
 use Rattle.shape.specs.Shape.{shape_commands}
 use Rattle.item.specs.declared.ItemRow.{ItemRow}
-use Rattle.item.specs.Rows.{is_path, is_polystar, entries_of}
-use Rattle.draw.specs.Items.{rect_of, whole_points, polystar_checks, polystar_shape, source_checks, shape_drawn, draw_source}
+use Rattle.item.specs.Rows.{is_path, entries_of}
+use Rattle.draw.specs.Items.{rect_of, source_checks, shape_drawn, draw_source}
 use Rattle.draw.proofs.ByKind.{kinds_relate}
 use Rattle.draw.proofs.Sources.{source_passed}
 
@@ -36,8 +34,8 @@ vertices_read (suc n) v v' same = ap₂ ◌∷◌ first (vertices_read n (drop 6
 
 -- a shape whose numbers stand at the start of v, kind by kind
 shape_read : (row : ItemRow) (v v' : List Float) → ((i : ℕ) → i < entries_of row → get_or v' i nan ≡ get_or v i nan) → shape_drawn row v' ≡ shape_drawn row v
-unfolding shape_drawn shape_commands path_commands polystar_shape
-shape_read row v v' same = kinds_relate Same row v v' path rectangle ellipse polystar (λ r. refl)
+unfolding shape_drawn shape_commands path_commands
+shape_read row v v' same = kinds_relate Same row v v' path rectangle ellipse (λ r. refl)
   where
     Same : Outcome Shape → Outcome Shape → Type 0
     Same o o' = mapped (λ (s : Shape). shape_commands s v') o' ≡ mapped (λ (s : Shape). shape_commands s v) o
@@ -53,14 +51,6 @@ shape_read row v v' same = kinds_relate Same row v v' path rectangle ellipse pol
 
     ellipse : is_path row ≡ false → entries_of row ≡ 4 → Same (accepted Ellipse) (accepted Ellipse)
     ellipse p e = let at = first 4 e in rw (at 0 (lit< tt), at 1 (lit< tt), at 2 (lit< tt), at 3 (lit< tt))
-
-    polystar : is_polystar row ≡ true → entries_of row ≡ 8 → Same (polystar_shape row.mark v) (polystar_shape row.mark v')
-    polystar p e =
-        let at = first 8 e in
-        let points = point_count row.mark (whole_points v) in
-        rw (at 2 (lit< tt), at 3 (lit< tt), at 4 (lit< tt))
-        (checks_hold (λ (o : Outcome Shape). Same o o) (λ r. refl) (polystar_checks row.mark v) (accepted (Polystar row.mark points))
-        (λ pass. ap (λ (s : _). accepted (polystar_path s)) (polystar_read row.mark points v v' at)))
 
 take_read : (n : ℕ) (v v' : List Float) → length v' ≡ length v → ((i : ℕ) → i < n → i < length v → get_or v' i nan ≡ get_or v i nan) → take n v' ≡ take n v
 take_read n v v' long same =

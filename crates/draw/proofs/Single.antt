@@ -13,19 +13,16 @@ use Rattle.command.specs.Outcomes.{Outcome, refused, accepted, mapped, list_of}
 use Rattle.command.proofs.Outcomes.{checks_hold}
 use Rattle.path.specs.Path.{path_commands}
 use Rattle.shape.specs.declared.Shape.{Shape}
-use Rattle.shape.specs.declared.Shape.TheVariants.{Polystar}
 use Rattle.shape.specs.Shape.{shape_commands}
 use Rattle.item.specs.declared.ItemRow.{ItemRow}
 use Rattle.item.specs.Rows.{item_row, entries_of}
 use Rattle.draw.specs.Paths.{path_checks, draw_path}
-use Rattle.draw.specs.Items.{whole_points, polystar_checks, polystar_shape, source_checks, shape_drawn, draw_source, item_checks, draw_item}
+use Rattle.draw.specs.Items.{source_checks, shape_drawn, draw_source, item_checks, draw_item}
 use Rattle.draw.proofs.ByKind.{kinds_hold}
 use Rattle.draw.proofs.Sources.{source_passed, path_passed}
 use Rattle.ieee.specs.Single.{AllSingle, Single}
 use Rattle.rect.proofs.Single.{rect_single}
 use Rattle.ellipse.proofs.Single.{ellipse_single}
-use Rattle.polystar.specs.Polystar.{point_count, polystar_of}
-use Rattle.polystar.proofs.Single.{polystar_single}
 use Rattle.path.proofs.Single.{commands_single}
 
 abbrev SingleOutcome : Outcome (List PathCommand) → Type 0
@@ -42,22 +39,13 @@ path_drawn_single closed count v at =
 
 -- a shape whose numbers stand at the start of v, kind by kind
 shape_single : (row : ItemRow) (v : List Float) → ((i : ℕ) → i < entries_of row → Single (get_or v i nan)) → SingleOutcome (shape_drawn row v)
-unfolding shape_drawn shape_commands polystar_shape
+unfolding shape_drawn shape_commands
 shape_single row v at =
-    kinds_hold SingleShape row v
+    kinds_hold (λ (o : Outcome Shape). SingleOutcome (mapped (λ (s : Shape). shape_commands s v) o)) row v
     (λ p e. commands_single row.mark row.count v (λ i h. at i (rw e h)))
     (λ p e. rect_single (get_or v 0 nan) (get_or v 1 nan) (get_or v 2 nan) (get_or v 3 nan) (get_or v 4 nan))
     (λ p e. ellipse_single (get_or v 0 nan) (get_or v 1 nan) (get_or v 2 nan) (get_or v 3 nan) (at 0 (rw e (lit< tt))) (at 1 (rw e (lit< tt))))
-    (λ p e.
-    checks_hold SingleShape (λ r. tt) (polystar_checks row.mark v) (accepted (Polystar row.mark (points v)))
-    (λ pass. polystar_single (polystar_of row.mark (points v) v)))
     (λ r. tt)
-  where
-    SingleShape : Outcome Shape → Type 0
-    SingleShape o = SingleOutcome (mapped (λ (s : Shape). shape_commands s v) o)
-
-    points : List Float → ℕ
-    points u = point_count row.mark (whole_points u)
 
 -- the numbers that are read are f32
 abbrev pub ReadSingle : ItemRow → List Float → Type 0

@@ -1,11 +1,11 @@
--- What a drawing call answers is a sound command list, where no polystar is drawn: every number of it is within the limit of command lists. A refusal has no
--- numbers. Assumes nothing.
-use mathlib.Core.Path.{◌≡◌, refl, sym, subst, ◌∙◌}
-use mathlib.Core.Bool.{true, false, true≢false}
+-- What a drawing call answers is a sound command list: every number of it is within the limit of command lists. A refusal has no numbers. Assumes nothing.
+use mathlib.Core.Path.{◌≡◌, refl, subst}
+use mathlib.Core.Bool.{true, false}
 use mathlib.Core.List.{List, []}
 use Prim.Native.Nat.{ℕ, ◌*◌, ◌^◌, ◌≤◌, ◌<◌}
 use lib.Dec.{lit<}
-use lib.Ieee.{Float, nan}
+use lib.Ieee.{Float, nan, of_bits}
+use lib.Ieee.Exact.{HasValue}
 use lib.ListN.{length, get_or, take, drop}
 use Rattle.ieee.specs.Limit.{all_within, Bounded}
 use Rattle.ieee.proofs.Bounds.{all_within→bounded, all_bounded_at}
@@ -22,12 +22,11 @@ use Rattle.shape.specs.declared.Shape.{Shape}
 use Rattle.shape.specs.declared.Shape.TheVariants.{Path, Ellipse}
 use Rattle.shape.specs.Shape.{shape_commands}
 use Rattle.item.specs.declared.ItemRow.{ItemRow}
-use Rattle.item.specs.Rows.{item_row, is_path, is_polystar, entries_of}
+use Rattle.item.specs.Rows.{item_row, is_path, entries_of}
 use Rattle.draw.specs.Checks.{coordinate_limit}
 use Rattle.draw.specs.Paths.{path_checks, draw_path}
-use Rattle.draw.specs.Items.{rect_of, polystar_shape, source_checks, shape_drawn, draw_source, item_checks, draw_item}
+use Rattle.draw.specs.Items.{rect_of, source_checks, shape_drawn, draw_source, item_checks, draw_item}
 use Rattle.draw.proofs.ByKind.{kinds_hold}
-use Rattle.draw.proofs.Limits.{limit_value}
 use Rattle.draw.proofs.Sources.{source_passed, entries_dropped, path_passed}
 
 -- the commands of an outcome are within the limit
@@ -52,10 +51,14 @@ pub drawn_path_sound : (closed : ℕ) (v : List Float) (count : ℕ) (cs : List 
 drawn_path_sound closed v count cs e = subst SoundOutcome e (draw_path_sound closed v count)
 
 -- ---- an item row
+pub limit_value : HasValue coordinate_limit false (2 ^ 20) 1
+unfolding of_bits
+limit_value = (refl, refl)
+
 -- a shape whose numbers stand at the start of v, kind by kind
-shape_sound : (row : ItemRow) (v : List Float) → is_polystar row ≡ false → all_within coordinate_limit (take (entries_of row) v) ≡ true → entries_of row ≤ length v → SoundOutcome (shape_drawn row v)
+shape_sound : (row : ItemRow) (v : List Float) → all_within coordinate_limit (take (entries_of row) v) ≡ true → entries_of row ≤ length v → SoundOutcome (shape_drawn row v)
 unfolding shape_drawn shape_commands
-shape_sound row v other w h = kinds_hold SoundShape row v path rectangle ellipse polystar (λ r. refusal_sound)
+shape_sound row v w h = kinds_hold SoundShape row v path rectangle ellipse (λ r. refusal_sound)
   where
     SoundShape : Outcome Shape → Type 0
     SoundShape o = SoundOutcome (mapped (λ (s : Shape). shape_commands s v) o)
@@ -76,19 +79,15 @@ shape_sound row v other w h = kinds_hold SoundShape row v path rectangle ellipse
         let at = first 4 e in
         ellipse_sound (get_or v 0 nan) (get_or v 1 nan) (get_or v 2 nan) (get_or v 3 nan) (at 0 (lit< tt)) (at 1 (lit< tt)) (at 2 (lit< tt)) (at 3 (lit< tt))
 
-    polystar : is_polystar row ≡ true → entries_of row ≡ 8 → SoundShape (polystar_shape row.mark v)
-    polystar p e = absurd (true≢false (sym p ∙ other))
-
-pub source_sound : (row : ItemRow) (items : List Float) → is_polystar row ≡ false → SoundOutcome (draw_source row items)
+pub source_sound : (row : ItemRow) (items : List Float) → SoundOutcome (draw_source row items)
 unfolding draw_source
-source_sound row items other =
+source_sound row items =
     checks_hold SoundOutcome none_sound (source_checks row items) (shape_drawn row (drop row.place items))
-    (λ pass. let P = source_passed row items pass in shape_sound row (drop row.place items) other P.numbers_within (entries_dropped row items P.inside))
+    (λ pass. let P = source_passed row items pass in shape_sound row (drop row.place items) P.numbers_within (entries_dropped row items P.inside))
 
-pub draw_item_sound : (row : List ℕ) (items : List Float) → is_polystar (item_row row 0) ≡ false → SoundOutcome (draw_item row items)
+pub draw_item_sound : (row : List ℕ) (items : List Float) → SoundOutcome (draw_item row items)
 unfolding draw_item
-draw_item_sound row items other =
-    checks_hold SoundOutcome none_sound (item_checks row) (draw_source (item_row row 0) items) (λ pass. source_sound (item_row row 0) items other)
+draw_item_sound row items = checks_hold SoundOutcome none_sound (item_checks row) (draw_source (item_row row 0) items) (λ pass. source_sound (item_row row 0) items)
 
-pub drawn_item_sound : (row : List ℕ) (items : List Float) (cs : List PathCommand) → is_polystar (item_row row 0) ≡ false → draw_item row items ≡ accepted cs → all_within command_limit (numbers_of cs) ≡ true
-drawn_item_sound row items cs other e = subst SoundOutcome e (draw_item_sound row items other)
+pub drawn_item_sound : (row : List ℕ) (items : List Float) (cs : List PathCommand) → draw_item row items ≡ accepted cs → all_within command_limit (numbers_of cs) ≡ true
+drawn_item_sound row items cs e = subst SoundOutcome e (draw_item_sound row items)

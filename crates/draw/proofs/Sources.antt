@@ -23,12 +23,11 @@ use Rattle.shape.specs.declared.Shape.TheVariants.{Path, Ellipse}
 use Rattle.shape.specs.Shape.{shape_commands, Fit}
 use Rattle.shape.proofs.Enough.{few}
 use Rattle.item.specs.declared.ItemRow.{ItemRow}
-use Rattle.item.specs.Rows.{item_row, is_path, is_polystar, entries_of}
+use Rattle.item.specs.Rows.{item_row, is_path, entries_of}
 use Rattle.draw.specs.Checks.{coordinate_limit}
 use Rattle.draw.specs.Paths.{path_checks, draw_path}
-use Rattle.draw.specs.Items.{has_no_vertices, rect_of, polystar_shape, item_shape, source_checks, shape_drawn, draw_source, item_checks, draw_item}
+use Rattle.draw.specs.Items.{has_no_vertices, rect_of, item_shape, source_checks, shape_drawn, draw_source, item_checks, draw_item}
 use Rattle.draw.proofs.ByKind.{kinds_hold}
-use Rattle.draw.proofs.Polystars.{drawable, made}
 
 -- ---- the checks of a row, passed
 pub record SourcePassed (row : ItemRow) (items : List Float) : Type 0 where
@@ -40,7 +39,7 @@ pub record SourcePassed (row : ItemRow) (items : List Float) : Type 0 where
 pub source_passed : (row : ItemRow) (items : List Float) → AllPass (source_checks row items) → SourcePassed row items
 unfolding source_checks
 source_passed row items pass = record {
-  some = pass.0;
+  some = search not-false;
   few = omega (arith, ltb-false, pass);
   inside = omega (arith, ltb-false, pass);
   numbers_within = search not-false;
@@ -59,9 +58,8 @@ pub record DrawnSource (row : ItemRow) (items : List Float) (cs : List PathComma
   pub commands : cs ≡ shape_commands shape (drop row.place items)
   pub drawn : shape_drawn row (drop row.place items) ≡ accepted cs
 
-made_fits : (row : ItemRow) (v : List Float) (s : Shape) → has_no_vertices row ≡ false → row.count ≤ 1024 → entries_of row ≤ length v
-    → all_within coordinate_limit (take (entries_of row) v) ≡ true → item_shape row v ≡ accepted s → Fit s v
-made_fits row v s some few inside within = kinds_hold Fits row v path rectangle ellipse polystar (λ r e. refused_accepted r s e)
+made_fits : (row : ItemRow) (v : List Float) (s : Shape) → has_no_vertices row ≡ false → row.count ≤ 1024 → entries_of row ≤ length v → item_shape row v ≡ accepted s → Fit s v
+made_fits row v s some few inside = kinds_hold Fits row v path rectangle ellipse (λ r e. refused_accepted r s e)
   where
     Fits : Outcome Shape → Type 0
     Fits o = o ≡ accepted s → Fit s v
@@ -79,11 +77,6 @@ made_fits row v s some few inside within = kinds_hold Fits row v path rectangle 
     ellipse : is_path row ≡ false → entries_of row ≡ 4 → Fits (accepted Ellipse)
     ellipse p n e = let is : Ellipse ≡ s = cc in rw (← is) (omega arith)
 
-    polystar : is_polystar row ≡ true → entries_of row ≡ 8 → Fits (polystar_shape row.mark v)
-    polystar p n e =
-        let m = made row.mark v s e in
-        rw m.2 (drawable row.mark v (omega arith) (rw n at within) m.0 m.1)
-
 pub drawn_source : (row : ItemRow) (items : List Float) (cs : List PathCommand) → draw_source row items ≡ accepted cs → DrawnSource row items cs
 unfolding draw_source shape_drawn
 drawn_source row items cs e =
@@ -98,7 +91,7 @@ drawn_source row items cs e =
       passed = P;
       shape = s;
       made = is;
-      fits = made_fits row (drop row.place items) s P.some P.few (entries_dropped row items P.inside) P.numbers_within is;
+      fits = made_fits row (drop row.place items) s P.some P.few (entries_dropped row items P.inside) is;
       commands = sym (ap list_of e);
       drawn = d;
     }

@@ -6,42 +6,38 @@ use mathlib.Core.List.{List, [], ◌∷◌}
 use Prim.Native.Nat.{ℕ, ◌+◌, ◌-◌, ◌*◌, ◌≤◌, ◌<◌}
 use native.Mathlib.Nat.{le_refl}
 use native.Mathlib.Omega.{arith}
-use lib.Dec.{eqb, ltb, leb, lit<}
+use lib.Dec.{eqb, leb}
 use lib.Ieee.{Float, nan}
 use lib.ListN.{length, get_or, take, drop, length-drop}
 use lib.Seq.{length-take-le, take_all, get_or-drop}
 use borrow.Author.Tests.{eq-eqb, ne_eqb, eqb-false, lt-ltb, le-ltb, ltb-false}
-use Rattle.ieee.specs.Limit.{within, all_within}
+use Rattle.ieee.specs.Limit.{all_within}
 use Rattle.command.specs.declared.PathCommand.{PathCommand}
 use Rattle.command.specs.declared.Refusal.{Refusal}
-use Rattle.command.specs.declared.Refusal.TheVariants.{Empty, TooMany, OutOfRange, Unlisted, OutOfBounds, DegenerateStar}
+use Rattle.command.specs.declared.Refusal.TheVariants.{Empty, TooMany, OutOfRange, Unlisted, Unsupported, OutOfBounds}
 use Rattle.command.specs.declared.Counts.{Counts}
 use Rattle.command.specs.Refusals.{refusal_number}
-use Rattle.command.specs.Outcomes.{Outcome, accepted, mapped, ◌gives◌, checked, counts_number, first_count, second_count}
+use Rattle.command.specs.Outcomes.{Outcome, accepted, ◌gives◌, checked, counts_number, first_count, second_count}
 use Rattle.command.specs.Buffers.{in_buffers, fitted, FilledBoth}
 use Rattle.command.proofs.Buffers.{both_unfilled}
 use Rattle.command.specs.declared.Verdict.{Verdict}
 use Rattle.command.specs.declared.Verdict.TheVariants.{Refused, Passed}
 use Rattle.command.specs.Verdicts.{verdict_of}
 use Rattle.command.proofs.Verdicts.{behind_refused, behind_passed, all_pass}
-use Rattle.count.specs.Count.{count_down, count_limit}
 use Rattle.rect.specs.Rect.{corner_radius}
-use Rattle.polystar.specs.Polystar.{point_count, is_degenerate}
 use Rattle.shape.specs.declared.Shape.{Shape}
-use Rattle.shape.specs.declared.Shape.TheVariants.{Path, Rect, Ellipse, Polystar}
+use Rattle.shape.specs.declared.Shape.TheVariants.{Path, Rect, Ellipse}
 use Rattle.shape.specs.Shape.{shape_commands, Fit}
 use Rattle.item.specs.declared.ItemRow.{ItemRow}
 use Rattle.item.specs.Rows.{item_row, is_listed, entries_of}
 use Rattle.path.specs.Path.{path_commands}
-use Rattle.item.proofs.Entries.{entries_path, entries_rect, entries_ellipse, entries_polystar}
+use Rattle.item.proofs.Entries.{entries_path, entries_rect, entries_ellipse}
 use Rattle.draw.specs.declared.Checked.{Checked}
 use Rattle.draw.specs.declared.Checked.TheVariants.{Fault, Sound}
 use Rattle.draw.specs.Checks.{coordinate_limit, outcome_of, Ready}
 use Rattle.draw.specs.Paths.{path_checks, draw_path}
-use Rattle.draw.proofs.Limits.{within_at}
-use Rattle.draw.proofs.Polystars.{drawable}
 use Rattle.draw.proofs.Sources.{SourcePassed, source_passed, path_passed}
-use Rattle.draw.specs.Items.{is_drawable, has_no_vertices, polystar_shape, item_shape, polystar_drawn, source_checks, shape_drawn, draw_source, item_checks, draw_item}
+use Rattle.draw.specs.Items.{is_drawable, is_held_back, has_no_vertices, item_shape, source_checks, shape_drawn, draw_source, item_checks, draw_item}
 
 -- ---- check_path and draw_path
 module _ (closed : ℕ) (v : List Float) (count : ℕ) where
@@ -116,59 +112,25 @@ module _ (row : ItemRow) (t : Bool) (is : t ≡ is_listed row) where
 
 pub ruleset rows = (listed_kind, not_listed)
 
--- ---- polystar_shape
-module _ (mark place : ℕ) (items : List Float) (inside : place + 8 ≤ length items) (w : all_within coordinate_limit (take 8 (drop place items)) ≡ true) where
-  abbrev eight : List Float
-  eight = drop place items
-
-  eight_inside : 8 ≤ length eight
-  eight_inside = rw length-drop (omega arith)
-
-  pub points_within : within count_limit (get_or items (place + 2) nan) ≡ true
-  points_within = rw (← get_or-drop place items 2 nan) (within_at 8 eight w eight_inside 2 (lit< tt))
-
-  module _ (whole : ℕ) (whole_is : whole ≡ count_down (get_or items (place + 2) nan)) where
-    abbrev degenerate : Bool
-    degenerate = is_degenerate mark whole (get_or items (place + 3) nan) (get_or items (place + 4) nan)
-
-    drawn_by : polystar_drawn mark eight
-        ≡ mapped (λ (s : Shape). shape_commands s eight)
-        (checked ((ltb 512 whole gives TooMany) ∷ (degenerate gives DegenerateStar) ∷ []) (accepted (Polystar mark (point_count mark whole))))
-    unfolding polystar_drawn polystar_shape
-    drawn_by = rw (whole_is, get_or-drop place items 2 nan, get_or-drop place items 3 nan, get_or-drop place items 4 nan)
-
-    pub many_points : 512 < whole → outcome_of (Fault TooMany) items ≡ polystar_drawn mark eight
-    unfolding outcome_of
-    many_points h = rw (drawn_by, lt-ltb 512 whole h)
-
-    module _ (few : whole ≤ 512) (t : Bool) (t_is : t ≡ degenerate) where
-      pub no_star : t ≡ true → outcome_of (Fault DegenerateStar) items ≡ polystar_drawn mark eight
-      unfolding outcome_of
-      no_star h = rw (drawn_by, le-ltb 512 whole few, ← t_is, h)
-
-      module _ (h : t ≡ false) (count : ℕ) (count_is : count ≡ point_count mark whole) where
-        pub star_drawn : outcome_of (Sound place (Polystar mark count)) items ≡ polystar_drawn mark eight
-        unfolding outcome_of
-        star_drawn = rw (drawn_by, le-ltb 512 whole few, ← t_is, h, count_is)
-
-        pub star_ready : Ready (Sound place (Polystar mark count)) items
-        star_ready =
-            let same : whole ≡ count_down (get_or eight 2 nan) = rw (get_or-drop place items 2 nan) whole_is in
-            let least : is_degenerate mark whole (get_or eight 3 nan) (get_or eight 4 nan) ≡ false =
-            rw (get_or-drop place items 3 nan, get_or-drop place items 4 nan) (sym t_is ∙ h) in (
-              omega arith,
-              rw (count_is, same) (drawable mark eight eight_inside w (rw same at few) (rw same at least)),
-            )
-
-pub ruleset polystars = (points_within, many_points, no_star)
-
--- ---- has_no_vertices and shape_of
+-- ---- has_no_vertices, is_held_back and shape_of
 module _ (row : ItemRow) where
   pub no_vertices_path : row.kind ≡ 1 → eqb row.count 0 ≡ has_no_vertices row
   no_vertices_path h = rw (eq-eqb row.kind 1 h)
 
   pub no_vertices_other : (row.kind ≡ 1 → ⊥) → false ≡ has_no_vertices row
   no_vertices_other h = rw (ne_eqb row.kind 1 h)
+
+  pub path_drawn : row.kind ≡ 1 → false ≡ is_held_back row
+  path_drawn h = rw (eq-eqb row.kind 1 h)
+
+  pub rect_drawn : row.kind ≡ 2 → false ≡ is_held_back row
+  rect_drawn h = rw h
+
+  pub ellipse_drawn : row.kind ≡ 3 → false ≡ is_held_back row
+  ellipse_drawn h = rw h
+
+  pub others_held : (row.kind ≡ 1 → ⊥) → (row.kind ≡ 2 → ⊥) → (row.kind ≡ 3 → ⊥) → true ≡ is_held_back row
+  others_held a b c = rw (ne_eqb row.kind 1 a, ne_eqb row.kind 2 b, ne_eqb row.kind 3 c)
 
   module _ (items : List Float) (some : has_no_vertices row ≡ false) (few : row.count ≤ 1024) (inside : row.place + entries_of row ≤ length items) where
     abbrev from : List Float
@@ -213,28 +175,17 @@ module _ (row : ItemRow) where
             let four = entries_ellipse row (ne_eqb row.kind 1 a) (ne_eqb row.kind 2 b) (eq-eqb row.kind 3 h) in
             (omega arith, rw length-drop (omega arith))
 
-      module _ (c : row.kind ≡ 3 → ⊥) where
-        module _ (h : row.kind ≡ 4) where
-          eight_entries : entries_of row ≡ 8
-          eight_entries = entries_polystar row (ne_eqb row.kind 1 a) (ne_eqb row.kind 2 b) (ne_eqb row.kind 3 c) (eq-eqb row.kind 4 h)
-
-          pub polystar_inside : row.place + 8 ≤ length items
-          polystar_inside = omega (arith, eight_entries)
-
-          pub polystar_within : all_within coordinate_limit (take (entries_of row) from) ≡ true → all_within coordinate_limit (take 8 from) ≡ true
-          polystar_within w = rw eight_entries at w
-
-          pub shape_polystar : (k : Checked) → outcome_of k items ≡ polystar_drawn row.mark from → outcome_of k items ≡ shape_drawn row from
-          unfolding shape_drawn polystar_drawn item_shape
-          shape_polystar k e = rw (ne_eqb row.kind 1 a, ne_eqb row.kind 2 b, ne_eqb row.kind 3 c, eq-eqb row.kind 4 h) e
-
-        pub shape_none : (row.kind ≡ 4 → ⊥) → outcome_of (Fault Unlisted) items ≡ shape_drawn row from
-        unfolding shape_drawn item_shape outcome_of
-        shape_none d = rw (ne_eqb row.kind 1 a, ne_eqb row.kind 2 b, ne_eqb row.kind 3 c, ne_eqb row.kind 4 d)
+      pub shape_none : (row.kind ≡ 3 → ⊥) → outcome_of (Fault Unsupported) items ≡ shape_drawn row from
+      unfolding shape_drawn item_shape outcome_of
+      shape_none c = rw (ne_eqb row.kind 1 a, ne_eqb row.kind 2 b, ne_eqb row.kind 3 c)
 
 pub ruleset kinds = (
   no_vertices_path,
   no_vertices_other,
+  path_drawn,
+  rect_drawn,
+  ellipse_drawn,
+  others_held,
   shape_path,
   path_fits,
   five_inside,
@@ -242,9 +193,6 @@ pub ruleset kinds = (
   rect_fits,
   shape_ellipse,
   ellipse_fits,
-  polystar_inside,
-  polystar_within,
-  shape_polystar,
   shape_none,
 )
 
@@ -257,64 +205,72 @@ module _ (row : ItemRow) (items : List Float) where
   abbrev verdict : Outcome (Unit {0})
   verdict = checked (source_checks row items) (verdict_of Passed)
 
-  module _ (empty : Bool) (empty_is : empty ≡ has_no_vertices row) where
-    pub source_empty : empty ≡ true → verdict_of (Refused Empty) ≡ verdict
+  module _ (held : Bool) (held_is : held ≡ is_held_back row) where
+    pub source_held : held ≡ true → verdict_of (Refused Unsupported) ≡ verdict
     unfolding source_checks
-    source_empty b = rw (← empty_is, b)
+    source_held a = rw (← held_is, a)
 
-    module _ (b : empty ≡ false) where
-      pub source_many : 1024 < row.count → verdict_of (Refused TooMany) ≡ verdict
+    module _ (a : held ≡ false) (empty : Bool) (empty_is : empty ≡ has_no_vertices row) where
+      pub source_empty : empty ≡ true → verdict_of (Refused Empty) ≡ verdict
       unfolding source_checks
-      source_many c = rw (← empty_is, b, lt-ltb 1024 row.count c)
+      source_empty b = rw (← held_is, a, ← empty_is, b)
 
-      module _ (c : row.count ≤ 1024) (n : ℕ) (n_is : n ≡ entries_of row) where
-        source_outside : length items < row.place + entries_of row → verdict_of (Refused OutOfBounds) ≡ verdict
+      module _ (b : empty ≡ false) where
+        pub source_many : 1024 < row.count → verdict_of (Refused TooMany) ≡ verdict
         unfolding source_checks
-        source_outside d =
-            rw (← empty_is, b, le-ltb 1024 row.count c, lt-ltb (length items) (row.place + entries_of row) d)
+        source_many c = rw (← held_is, a, ← empty_is, b, lt-ltb 1024 row.count c)
 
-        pub source_short : length items < n → verdict_of (Refused OutOfBounds) ≡ verdict
-        source_short d = source_outside (omega arith)
+        module _ (c : row.count ≤ 1024) (n : ℕ) (n_is : n ≡ entries_of row) where
+          source_outside : length items < row.place + entries_of row → verdict_of (Refused OutOfBounds) ≡ verdict
+          unfolding source_checks
+          source_outside d =
+              rw (← held_is, a, ← empty_is, b, le-ltb 1024 row.count c, lt-ltb (length items) (row.place + entries_of row) d)
 
-        module _ (d : n ≤ length items) where
-          pub source_past : length items - n < row.place → verdict_of (Refused OutOfBounds) ≡ verdict
-          source_past e = source_outside (omega arith)
+          pub source_short : length items < n → verdict_of (Refused OutOfBounds) ≡ verdict
+          source_short d = source_outside (omega arith)
 
-          module _ (e : row.place ≤ length items - n) where
-            pub end_inside : row.place + n ≤ length items
-            end_inside = omega arith
+          module _ (d : n ≤ length items) where
+            pub source_past : length items - n < row.place → verdict_of (Refused OutOfBounds) ≡ verdict
+            source_past e = source_outside (omega arith)
 
-            entries_inside : row.place + entries_of row ≤ length items
-            entries_inside = omega arith
+            module _ (e : row.place ≤ length items - n) where
+              pub end_inside : row.place + n ≤ length items
+              end_inside = omega arith
 
-            module _ (t : Bool) (t_is : t ≡ all_within coordinate_limit (take (row.place + n - row.place) v)) where
-              same : take (row.place + n - row.place) v ≡ take (entries_of row) v
-              same =
-                  let e : row.place + n - row.place ≡ entries_of row = omega arith in
-                  ap (λ (k : ℕ). take k v) e
+              entries_inside : row.place + entries_of row ≤ length items
+              entries_inside = omega arith
 
-              judged : t ≡ all_within coordinate_limit (take (entries_of row) v)
-              judged = t_is ∙ ap (all_within coordinate_limit) same
+              module _ (t : Bool) (t_is : t ≡ all_within coordinate_limit (take (row.place + n - row.place) v)) where
+                same : take (row.place + n - row.place) v ≡ take (entries_of row) v
+                same =
+                    let e : row.place + n - row.place ≡ entries_of row = omega arith in
+                    ap (λ (k : ℕ). take k v) e
 
-              -- the last check, with the others passed
-              last : checked ((not t gives OutOfRange) ∷ []) (verdict_of Passed) ≡ verdict
-              unfolding source_checks
-              last =
-                  rw (
-                    ← empty_is,
-                    b,
-                    le-ltb 1024 row.count c,
-                    le-ltb (length items) (row.place + entries_of row) entries_inside,
-                    ← judged,
-                  )
+                judged : t ≡ all_within coordinate_limit (take (entries_of row) v)
+                judged = t_is ∙ ap (all_within coordinate_limit) same
 
-              pub source_beyond : t ≡ false → verdict_of (Refused OutOfRange) ≡ verdict
-              source_beyond f = rw f at last
+                -- the last check, with the others passed
+                last : checked ((not t gives OutOfRange) ∷ []) (verdict_of Passed) ≡ verdict
+                unfolding source_checks
+                last =
+                    rw (
+                      ← held_is,
+                      a,
+                      ← empty_is,
+                      b,
+                      le-ltb 1024 row.count c,
+                      le-ltb (length items) (row.place + entries_of row) entries_inside,
+                      ← judged,
+                    )
 
-              pub source_passes : t ≡ true → verdict_of Passed ≡ verdict
-              source_passes f = rw f at last
+                pub source_beyond : t ≡ false → verdict_of (Refused OutOfRange) ≡ verdict
+                source_beyond f = rw f at last
+
+                pub source_passes : t ≡ true → verdict_of Passed ≡ verdict
+                source_passes f = rw f at last
 
 pub ruleset sources = (
+  source_held,
   source_empty,
   source_many,
   source_short,
@@ -347,14 +303,11 @@ module _ (row : ItemRow) (items : List Float) (u : Verdict) (u_is : verdict_of u
     pub numbers_inside : row.place + entries_of row ≤ length items
     numbers_inside = passed.inside
 
-    pub all_within_limit : all_within coordinate_limit (take (entries_of row) rest) ≡ true
-    all_within_limit = passed.numbers_within
-
     pub source_made : (k : Checked) → outcome_of k items ≡ shape_drawn row rest → outcome_of k items ≡ draw_source row items
     unfolding draw_source
     source_made k is = is ∙ sym (behind_passed (source_checks row items) u u_is e (shape_drawn row rest))
 
-pub ruleset behind_checks = (some_vertices, few_vertices, numbers_inside, all_within_limit, source_made)
+pub ruleset behind_checks = (some_vertices, few_vertices, numbers_inside, source_made)
 
 -- ---- check_row
 module _ (row : List ℕ) where

@@ -1,13 +1,12 @@
 // The calls that draw a vertex list or one item row: the checks in document 01's order, then the writing.
-ghost use Rattle.std.specs.Prelude.{◌≡◌, ◌+◌, ◌≤◌, length, take, drop, true, false};
-ghost use Rattle.ieee.specs.Limit.{all_within};
+ghost use Rattle.std.specs.Prelude.{◌≡◌, ◌+◌, ◌≤◌, length, drop, false};
 ghost use Rattle.command.specs.Outcomes.{accepted, checked, counts_number, first_count, second_count};
 ghost use Rattle.command.specs.Verdicts.{verdict_of};
 ghost use Rattle.command.specs.Buffers.{in_buffers, fitted, FilledBoth};
 ghost use Rattle.item.specs.Rows.{entries_of};
-ghost use Rattle.draw.specs.Checks.{coordinate_limit, outcome_of, Ready};
+ghost use Rattle.draw.specs.Checks.{outcome_of, Ready};
 ghost use Rattle.draw.specs.Paths.{path_checks, draw_path};
-ghost use Rattle.draw.specs.Items.{is_drawable, has_no_vertices, polystar_drawn, source_checks, shape_drawn, draw_source, item_checks, draw_item};
+ghost use Rattle.draw.specs.Items.{is_drawable, is_held_back, has_no_vertices, source_checks, shape_drawn, draw_source, item_checks, draw_item};
 
 use command::{Counts, Refusal, Verdict};
 use item::ItemRow;
@@ -62,29 +61,22 @@ fn has_no_vertices(row: ItemRow) -> bool
     if row.kind == 1 { row.count == 0 } else { false }
 }
 
-// The polystar whose eight numbers stand at a place, or why there is none.
-fn polystar_shape(mark: u32, place: usize, items: &[f32]) -> Checked
-    requires { (place + 8 ≤ length items.now) × (all_within coordinate_limit (take 8 (drop place items.now)) ≡ true) }
-    ensures { (outcome_of result items.now ≡ polystar_drawn mark (drop place items.now)) × Ready result items.now }
+// Whether a row is of a kind that is not drawn yet.
+fn is_held_back(row: ItemRow) -> bool
+    ensures { result ≡ is_held_back row }
 {
-    let whole = count::count_down(items[place + 2]) as usize;
-    if whole > 512 {
-        return Checked::Fault(Refusal::TooMany);
-    }
-    if polystar::is_degenerate(mark, whole, items[place + 3], items[place + 4]) {
-        Checked::Fault(Refusal::DegenerateStar)
-    } else {
-        Checked::Sound(
-            place,
-            Shape::Polystar(mark, polystar::point_count(mark, whole)),
-        )
+    let kind = row.kind;
+    match kind {
+        1 => false,
+        2 => false,
+        3 => false,
+        _ => true,
     }
 }
 
 // What a row whose numbers are there and within the limit says is to be drawn, or why it cannot be.
 pub fn shape_of(row: ItemRow, items: &[f32]) -> Checked
-    requires row_value { (has_no_vertices row ≡ false) × (row.count ≤ 1024) × (row.place + entries_of row ≤ length items.now) }
-    requires value { all_within coordinate_limit (take (entries_of row) (drop row.place items.now)) ≡ true }
+    requires { (has_no_vertices row ≡ false) × (row.count ≤ 1024) × (row.place + entries_of row ≤ length items.now) }
     ensures { (outcome_of result items.now ≡ shape_drawn row (drop row.place items.now)) × Ready result items.now }
 {
     let i = row.place;
@@ -98,16 +90,16 @@ pub fn shape_of(row: ItemRow, items: &[f32]) -> Checked
     if row.kind == 3 {
         return Checked::Sound(i, Shape::Ellipse);
     }
-    if row.kind == 4 {
-        return polystar_shape(row.mark, i, items);
-    }
-    Checked::Fault(Refusal::Unlisted)
+    Checked::Fault(Refusal::Unsupported)
 }
 
 // The checks of a row with listed entries, all but that of the buffers.
 pub fn check_source(row: ItemRow, items: &[f32]) -> Verdict
     ensures { verdict_of result ≡ checked (source_checks row items.now) (accepted tt) }
 {
+    if is_held_back(row) {
+        return Verdict::Refused(Refusal::Unsupported);
+    }
     if has_no_vertices(row) {
         return Verdict::Refused(Refusal::Empty);
     }

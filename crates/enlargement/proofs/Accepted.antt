@@ -1,5 +1,5 @@
--- What is drawn of a vertex list, of an item row or of a merge, no polystar among them, is accepted by the calls that read command lists: its codes and numbers
--- are judged sound, and are read as the commands that were drawn. Assumes nothing.
+-- What is drawn of a vertex list, of an item row or of a merge is accepted by the calls that read command lists: its codes and numbers are judged sound, and are read as the
+-- commands that were drawn. Assumes nothing.
 use mathlib.Core.Path.{◌≡◌}
 use mathlib.Core.List.{List}
 use Prim.Native.Nat.{ℕ}
@@ -13,18 +13,15 @@ use Rattle.draw.specs.Items.{draw_item}
 use Rattle.draw.proofs.Sources.{drawn_path_few, drawn_item_few}
 use Rattle.draw.proofs.Sound.{drawn_path_sound, drawn_item_sound}
 use Rattle.join.specs.Merge.{draw_merge}
-use Rattle.join.specs.Joined.{NoPolystarJoined}
 use Rattle.join.proofs.Sound.{drawn_merge_sound, drawn_merge_few}
 use Rattle.judge.specs.Lists.{judge_list}
 use Rattle.judge.proofs.Lists.{list_judged}
-use Rattle.enlargement.specs.Plates.{NoPolystar}
 
 pub path_accepted : (closed : ℕ) (v : List Float) (count : ℕ) (cs : List PathCommand) → draw_path closed v count ≡ accepted cs → judge_list (codes_of cs) (numbers_of cs) ≡ accepted cs
 path_accepted closed v count cs e = list_judged cs (omega (arith, drawn_path_few closed v count cs e)) (drawn_path_sound closed v count cs e)
 
-pub item_accepted : (row : List ℕ) (items : List Float) (cs : List PathCommand) → NoPolystar row → draw_item row items ≡ accepted cs → judge_list (codes_of cs) (numbers_of cs) ≡ accepted cs
-item_accepted row items cs other e = list_judged cs (omega (arith, drawn_item_few row items cs e)) (drawn_item_sound row items cs other e)
+pub item_accepted : (row : List ℕ) (items : List Float) (cs : List PathCommand) → draw_item row items ≡ accepted cs → judge_list (codes_of cs) (numbers_of cs) ≡ accepted cs
+item_accepted row items cs e = list_judged cs (omega (arith, drawn_item_few row items cs e)) (drawn_item_sound row items cs e)
 
-pub merge_accepted : (rows : List ℕ) (n : ℕ) (items : List Float) (cs : List PathCommand) → NoPolystarJoined rows n → draw_merge rows n items ≡ accepted cs
-    → judge_list (codes_of cs) (numbers_of cs) ≡ accepted cs
-merge_accepted rows n items cs others e = list_judged cs (drawn_merge_few rows n items cs e) (drawn_merge_sound rows n items cs others e)
+pub merge_accepted : (rows : List ℕ) (n : ℕ) (items : List Float) (cs : List PathCommand) → draw_merge rows n items ≡ accepted cs → judge_list (codes_of cs) (numbers_of cs) ≡ accepted cs
+merge_accepted rows n items cs e = list_judged cs (drawn_merge_few rows n items cs e) (drawn_merge_sound rows n items cs e)

@@ -107,13 +107,13 @@ module _ (k : ℕ) (K : k ≤ 6) (p p' : Plate) (G : PlateOnGrid p) (E : Enlarge
   item_drawn : draw_item p'.lent.row p'.items ≡ enlarged_drawing k (draw_item p.lent.row p.items)
   item_drawn =
       rw E.lent
-      (row_alike k K p.lent.row G.no_polystar p.items p'.items
+      (row_alike k K p.lent.row p.items p'.items
       (multiplied_twins k K (OfRow (item_row p.lent.row 0)) p.items p'.items G.row E.row)).outcome
 
   merge_drawn : draw_merge p'.lent.rows p'.lent.row_count p'.items ≡ enlarged_drawing k (draw_merge p.lent.rows p.lent.row_count p.items)
   merge_drawn =
       rw E.lent
-      (merge_alike k K p.lent.rows p.lent.row_count G.no_polystar_joined p.items p'.items
+      (merge_alike k K p.lent.rows p.lent.row_count p.items p'.items
       (multiplied_twins k K (OfMerge p.lent.rows p.lent.row_count) p.items p'.items G.rows E.rows)).outcome
 
   answered : AnsweredAlike k p p'

@@ -3,8 +3,7 @@
 -- What some calls answer about it and about the plate four times as large stands below as numbers. Assumes nothing.
 use Prim.Native.Nat.{ℕ, zero, suc, ◌<◌, ◌≤◌}
 use native.Mathlib.Nat.{not-suc-le-zero, le_of_suc-le-suc}
-use native.Mathlib.Omega.{arith}
-use mathlib.Core.Path.{◌≡◌, refl, sym, ap, ◌∙◌}
+use mathlib.Core.Path.{◌≡◌, refl}
 use mathlib.Core.Bool.{Bool, true, false, ◌&&◌}
 use mathlib.Core.List.{List, [], ◌∷◌, map}
 use lib.Dec.{T}
@@ -29,11 +28,9 @@ use Rattle.command.specs.Outcomes.{accepted, mapped, list_of}
 use Rattle.path.specs.Path.{bezier_segment}
 use Rattle.rect.specs.Bounds.{rect_bounds}
 use Rattle.ellipse.specs.Ellipse.{tangent_on, ellipse_path}
-use Rattle.item.specs.Rows.{item_row, is_polystar}
 use Rattle.draw.specs.Paths.{draw_path}
 use Rattle.draw.specs.Items.{draw_item}
 use Rattle.merge.specs.Decision.{ruling, decision}
-use Rattle.join.specs.Joined.{NoPolystarJoined}
 use Rattle.curve.specs.Curve.{distance}
 use Rattle.measure.specs.Length as measure
 use Rattle.reader.specs.Read as reader
@@ -139,28 +136,10 @@ triangle_drawn : draw_path 1 triangle 3 ≡ accepted sides
 unfolding draw_path bezier_segment sub of_bits le
 triangle_drawn = refl
 
--- the rectangles and the ellipse are joined
-rows_decided : decision lent.rows 4 ≡ accepted (0 ∷ 1 ∷ 2 ∷ [])
-unfolding decision
-rows_decided = refl
-
-none_joined : NoPolystarJoined lent.rows 4
-none_joined r J =
-    let are : J.numbers ≡ 0 ∷ 1 ∷ 2 ∷ [] = ap list_of (sym J.decided ∙ rows_decided) in
-    rw (J.is, are) (go J.index (rw are at J.inside))
-  where
-    go : (i : ℕ) → i < 3 → is_polystar (item_row lent.rows (get_or (0 ∷ 1 ∷ 2 ∷ []) i 0)) ≡ false
-    go zero h = refl
-    go (suc zero) h = refl
-    go (suc (suc zero)) h = refl
-    go (suc (suc (suc i))) h = absurd (omega arith)
-
 pub example_on_grid : PlateOnGrid plate
 unfolding of_bits eq fits
 example_on_grid = record {
   vertices = all_on_grid_lem _ triangle tt;
-  no_polystar = refl;
-  no_polystar_joined = none_joined;
   row = all_on_grid_lem _ rectangles tt;
   rows = all_on_grid_lem _ rectangles tt;
   commands = sides;

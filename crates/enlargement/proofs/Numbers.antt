@@ -26,7 +26,6 @@ use Rattle.draw.specs.Items.{draw_item}
 use Rattle.draw.proofs.Single.{path_drawn_single, item_drawn_single}
 use Rattle.draw.proofs.Enlarged.{path_outcome, item_outcome}
 use Rattle.join.specs.Merge.{draw_merge}
-use Rattle.join.specs.Joined.{NoPolystarJoined}
 use Rattle.join.proofs.Single.{merge_drawn_single}
 use Rattle.join.proofs.Enlarged.{merge_outcome}
 use Rattle.reader.specs.Read.{size_of_code}
@@ -46,7 +45,7 @@ use Rattle.repeater.proofs.Single.{copy_single}
 use Rattle.repeater.proofs.Enlarged.{RepeaterTwin, copy_moved}
 use Rattle.copies.specs.Calls.{repeater_checks, copy_numbers, all_finite, copy_answer, transform_answer}
 use Rattle.copies.proofs.Ways.{offset_within, count_few}
-use Rattle.enlargement.specs.Plates.{Plate, OfVertices, OfRow, OfMerge, OnGrid, GridAt, NoPolystar, Made, of_nothing, of_vertices, of_row, of_merge}
+use Rattle.enlargement.specs.Plates.{Plate, OfVertices, OfRow, OfMerge, OnGrid, GridAt, Made, of_nothing, of_vertices, of_row, of_merge}
 use Rattle.enlargement.specs.Plates.{PlateOnGrid, times, enlarged_repeater, MultipliedAt}
 use Rattle.enlargement.specs.Claim.{length_numbers, shift_numbers, multiplied_numbers}
 
@@ -79,14 +78,12 @@ module _ (k : ℕ) (K : k ≤ 6) where
   pub path_alike : (closed count : ℕ) (v v' : List Float) → TwinsAt k (OfVertices count) v v' → DrawingTwin k 35 16 (draw_path closed v count) (draw_path closed v' count)
   path_alike closed count v v' t = path_outcome k K closed count v v' t.long t.twins
 
-  pub row_alike : (row : List ℕ) → NoPolystar row → (items items' : List Float) → TwinsAt k (OfRow (item_row row 0)) items items'
-      → DrawingTwin k 35 16 (draw_item row items) (draw_item row items')
-  row_alike row other items items' t = item_outcome k K row other items items' t.long (λ i h g. t.twins i (record { from = h; to = g }))
+  pub row_alike : (row : List ℕ) (items items' : List Float) → TwinsAt k (OfRow (item_row row 0)) items items' → DrawingTwin k 35 16 (draw_item row items) (draw_item row items')
+  row_alike row items items' t = item_outcome k K row items items' t.long (λ i h g. t.twins i (record { from = h; to = g }))
 
-  pub merge_alike : (rows : List ℕ) (n : ℕ) → NoPolystarJoined rows n → (items items' : List Float) → TwinsAt k (OfMerge rows n) items items'
-      → DrawingTwin k 35 16 (draw_merge rows n items) (draw_merge rows n items')
-  merge_alike rows n others items items' t =
-      merge_outcome k K rows n others items items' t.long (λ row j i h g. t.twins i (record { row = row; is_joined = j; is_its = record { from = h; to = g } }))
+  pub merge_alike : (rows : List ℕ) (n : ℕ) (items items' : List Float) → TwinsAt k (OfMerge rows n) items items' → DrawingTwin k 35 16 (draw_merge rows n items) (draw_merge rows n items')
+  merge_alike rows n items items' t =
+      merge_outcome k K rows n items items' t.long (λ row j i h g. t.twins i (record { row = row; is_joined = j; is_its = record { from = h; to = g } }))
 
 -- ---- f32 on a grid
 pub record Small (q b : ℕ) (xs : List Float) : Type 0 where
@@ -127,16 +124,16 @@ path_small closed count v G = record {
   grid = (path_alike 1 (lit≤ tt) closed count v (map (scale 1) v) (scaled_twins 1 (OfVertices count) v G)).grid;
 }
 
-pub row_small : (row : List ℕ) → NoPolystar row → (items : List Float) → GridAt (OfRow (item_row row 0)) items → Small 35 16 (numbers_of (list_of (draw_item row items)))
-row_small row other items G = record {
+pub row_small : (row : List ℕ) (items : List Float) → GridAt (OfRow (item_row row 0)) items → Small 35 16 (numbers_of (list_of (draw_item row items)))
+row_small row items G = record {
   single = item_drawn_single row items (λ i h g l. grid_single (G i (record { from = h; to = g }) l));
-  grid = (row_alike 1 (lit≤ tt) row other items (map (scale 1) items) (scaled_twins 1 (OfRow (item_row row 0)) items G)).grid;
+  grid = (row_alike 1 (lit≤ tt) row items (map (scale 1) items) (scaled_twins 1 (OfRow (item_row row 0)) items G)).grid;
 }
 
-pub merge_small : (rows : List ℕ) (n : ℕ) → NoPolystarJoined rows n → (items : List Float) → GridAt (OfMerge rows n) items → Small 35 16 (numbers_of (list_of (draw_merge rows n items)))
-merge_small rows n others items G = record {
+pub merge_small : (rows : List ℕ) (n : ℕ) (items : List Float) → GridAt (OfMerge rows n) items → Small 35 16 (numbers_of (list_of (draw_merge rows n items)))
+merge_small rows n items G = record {
   single = merge_drawn_single rows n items (λ row j i h g l. grid_single (G i (record { row = row; is_joined = j; is_its = record { from = h; to = g } }) l));
-  grid = (merge_alike 1 (lit≤ tt) rows n others items (map (scale 1) items) (scaled_twins 1 (OfMerge rows n) items G)).grid;
+  grid = (merge_alike 1 (lit≤ tt) rows n items (map (scale 1) items) (scaled_twins 1 (OfMerge rows n) items G)).grid;
 }
 
 accepted_small : (o : Outcome (List PathCommand)) (cs : List PathCommand) → Small 35 16 (numbers_of (list_of o)) → o ≡ accepted cs → Small 35 16 (numbers_of cs)
@@ -145,8 +142,8 @@ accepted_small o cs X e = subst (λ (p : Outcome (List PathCommand)). Small 35 1
 pub made_small : (cs : List PathCommand) → Made cs → Small 35 16 (numbers_of cs)
 made_small cs of_nothing = none_small 35 16
 made_small cs (of_vertices closed count v ds G e) = accepted_small (draw_path closed v count) ds (path_small closed count v G) e
-made_small cs (of_row row items ds N G e) = accepted_small (draw_item row items) ds (row_small row N items G) e
-made_small cs (of_merge rows n items ds N G e) = accepted_small (draw_merge rows n items) ds (merge_small rows n N items G) e
+made_small cs (of_row row items ds G e) = accepted_small (draw_item row items) ds (row_small row items G) e
+made_small cs (of_merge rows n items ds G e) = accepted_small (draw_merge rows n items) ds (merge_small rows n items G) e
 
 -- ---- what is asked of a command list
 module _ (cs : List PathCommand) (M : Small 35 16 (numbers_of cs)) where
@@ -238,8 +235,8 @@ shift_small p G copy =
 pub all_small : (p : Plate) → PlateOnGrid p → Small 128 72 (multiplied_numbers p)
 all_small p G =
     small_append (fine (path_small p.lent.closed p.lent.count p.vertices G.vertices))
-    (small_append (fine (row_small p.lent.row G.no_polystar p.items G.row))
-    (small_append (fine (merge_small p.lent.rows p.lent.row_count G.no_polystar_joined p.items G.rows))
+    (small_append (fine (row_small p.lent.row p.items G.row))
+    (small_append (fine (merge_small p.lent.rows p.lent.row_count p.items G.rows))
     (small_append (small_weaken 91 71 128 72 _ (lit≤ tt) (lit≤ tt) (at (λ codes numbers. Small 91 71 (length_numbers (measure_list codes numbers))) (length_small cs M)))
     (small_append (fine (at (λ codes numbers. Small 35 16 (command_part codes numbers p.lent.command)) (part_small cs M p.lent.command)))
     (small_append (at (λ codes numbers. Small 128 72 (list_of (mapped told_numbers (lengths_answer p.lent.trim codes numbers)))) (cuts_small cs M p.lent.trim))

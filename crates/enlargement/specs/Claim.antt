@@ -1,6 +1,5 @@
 -- The third demand of the mission, whole: every call answers a plate on the grid and the same plate enlarged by 2, 4, 8, 16, 32 or 64 alike.
--- What later requests brought that a drawing passes through is claimed too: ellipses, needs, and whether a length is reached. Rows that are drawn or
--- joined are paths, rectangles and ellipses here: stars and polygons take no part.
+-- What later requests brought that a drawing passes through is claimed too: ellipses, needs, and whether a length is reached.
 -- `AnsweredAlike` has a field for each call:
 --
 --   drawing                     the same refusal, or the same codes and every coordinate multiplied

@@ -9,11 +9,11 @@ use Rattle.command.specs.declared.PathCommand.{PathCommand}
 use Rattle.command.specs.Commands.{codes_of, numbers_of}
 use Rattle.command.specs.Outcomes.{accepted}
 use Rattle.item.specs.declared.ItemRow.{ItemRow}
-use Rattle.item.specs.Rows.{item_row, is_polystar, entries_of}
+use Rattle.item.specs.Rows.{item_row, entries_of}
 use Rattle.draw.specs.Paths.{draw_path}
 use Rattle.draw.specs.Items.{draw_item}
 use Rattle.join.specs.Merge.{draw_merge}
-use Rattle.join.specs.Joined.{JoinedRow, NoPolystarJoined}
+use Rattle.join.specs.Joined.{JoinedRow}
 use Rattle.reach.specs.Reach.{is_length}
 use Rattle.trim.specs.declared.TrimStyle.{TrimStyle}
 use Rattle.repeater.specs.declared.RepeaterStyle.{RepeaterStyle}
@@ -69,26 +69,18 @@ pub record OnGrid (x : Float) : Type 0 where
 abbrev pub GridAt : (ℕ → Type 0) → List Float → Type 0
 GridAt read v = (i : ℕ) → read i → i < length v → OnGrid (get_or v i nan)
 
--- a row that is drawn is no polystar
-abbrev pub NoPolystar : List ℕ → Type 0
-NoPolystar row = is_polystar (item_row row 0) ≡ false
-
--- a command list that is what drawing or a merge gives for items on the grid, no polystar among them, or none
+-- a command list that is what drawing or a merge gives for items on the grid, or none
 pub data Made : List PathCommand → Type 0 where
   of_nothing : Made []
   of_vertices : (closed count : ℕ) (v : List Float) (cs : List PathCommand) → GridAt (OfVertices count) v → draw_path closed v count ≡ accepted cs → Made cs
-  of_row : (row : List ℕ) (items : List Float) (cs : List PathCommand) → NoPolystar row → GridAt (OfRow (item_row row 0)) items
-      → draw_item row items ≡ accepted cs → Made cs
-  of_merge : (rows : List ℕ) (n : ℕ) (items : List Float) (cs : List PathCommand) → NoPolystarJoined rows n → GridAt (OfMerge rows n) items
-      → draw_merge rows n items ≡ accepted cs → Made cs
+  of_row : (row : List ℕ) (items : List Float) (cs : List PathCommand) → GridAt (OfRow (item_row row 0)) items → draw_item row items ≡ accepted cs → Made cs
+  of_merge : (rows : List ℕ) (n : ℕ) (items : List Float) (cs : List PathCommand) → GridAt (OfMerge rows n) items → draw_merge rows n items ≡ accepted cs → Made cs
 
 -- The conditions of the third demand: every number that is read as a coordinate is on the grid, the command list is made of such, and the repeater
--- scales by 100 and has no rotation, that is one of +0 or -0: of turned copies nothing is claimed. Nor is anything claimed of polystars: the row that is
--- drawn, and the rows that a merge joins, are of the other kinds. Nothing is asked of numbers that are not read, nor of all else.
+-- scales by 100 and has no rotation, that is one of +0 or -0: of turned copies nothing is claimed. Nothing is asked of numbers that are not read, nor
+-- of all else.
 pub record PlateOnGrid (p : Plate) : Type 0 where
   pub vertices : GridAt (OfVertices p.lent.count) p.vertices
-  pub no_polystar : NoPolystar p.lent.row
-  pub no_polystar_joined : NoPolystarJoined p.lent.rows p.lent.row_count
   pub row : GridAt (OfRow (item_row p.lent.row 0)) p.items
   pub rows : GridAt (OfMerge p.lent.rows p.lent.row_count) p.items
   pub commands : List PathCommand

@@ -7,10 +7,10 @@ use lib.Dec.{T, leb, leb→le, le→leb}
 use lib.IntN.{pos}
 use lib.Ieee.{Float, binary32, binary64, sub, mul, div, of_int, of_bits, in_float, fits, is_nan}
 use lib.Ieee.Fits.{and_l, and_r}
-use Rattle.ieee.specs.Literal.{one32, two32}
+use Rattle.ieee.specs.Literal.{one32}
 use Rattle.ieee.specs.Operators.{◌⊖◌, ◌⊗◌}
 use Rattle.ieee.specs.Fused.{fma}
-use Rattle.curve.specs.Curve.{squared, quad_at, step_of}
+use Rattle.curve.specs.Curve.{two32, squared, quad_at, step_of}
 use Rattle.curve.proofs.Chords.{quad_steps}
 use Rattle.flatten.specs.Weight.{QuadWeights}
 use Rattle.flatten.proofs.Exact.{weight_widens}

@@ -11,10 +11,6 @@ zero32 = of_bits binary32 0
 abbrev pub one32 : Float
 one32 = of_bits binary32 0x3f80_0000
 
--- 2.0
-abbrev pub two32 : Float
-two32 = of_bits binary32 0x4000_0000
-
 -- 360.0, a whole turn in degrees
 abbrev pub turn32 : Float
 turn32 = of_bits binary32 0x43b4_0000

@@ -3,7 +3,7 @@ use mathlib.Core.Path.{◌≡◌}
 use mathlib.Core.Bool.{true, false}
 use Prim.Native.Nat.{◌*◌}
 use Rattle.item.specs.declared.ItemRow.{ItemRow}
-use Rattle.item.specs.Rows.{is_path, is_rect, is_ellipse, is_polystar, entries_of}
+use Rattle.item.specs.Rows.{is_path, is_rect, is_ellipse, entries_of}
 
 pub entries_path : (row : ItemRow) → is_path row ≡ true → entries_of row ≡ 6 * row.count
 unfolding entries_of
@@ -17,10 +17,6 @@ pub entries_ellipse : (row : ItemRow) → is_path row ≡ false → is_rect row 
 unfolding entries_of
 entries_ellipse row a b c = rw (a, b, c)
 
-pub entries_polystar : (row : ItemRow) → is_path row ≡ false → is_rect row ≡ false → is_ellipse row ≡ false → is_polystar row ≡ true → entries_of row ≡ 8
+pub entries_none : (row : ItemRow) → is_path row ≡ false → is_rect row ≡ false → is_ellipse row ≡ false → entries_of row ≡ 0
 unfolding entries_of
-entries_polystar row a b c d = rw (a, b, c, d)
-
-pub entries_none : (row : ItemRow) → is_path row ≡ false → is_rect row ≡ false → is_ellipse row ≡ false → is_polystar row ≡ false → entries_of row ≡ 0
-unfolding entries_of
-entries_none row a b c d = rw (a, b, c, d)
+entries_none row a b c = rw (a, b, c)

@@ -7,32 +7,8 @@ use native.Mathlib.Omega.{arith}
 use lib.Dec.{eqb, leb}
 use borrow.Author.Tests.{eq-eqb, ne_eqb, lt-leb, le-leb}
 use Rattle.item.specs.declared.ItemRow.{ItemRow}
-use Rattle.item.specs.Rows.{is_polystar_mark, is_mark, is_listed, entries_of}
-use Rattle.item.proofs.Entries.{entries_path, entries_rect, entries_ellipse, entries_polystar, entries_none}
-
--- ---- is_polystar_mark
-module _ (mark : ℕ) where
-  pub mark_1 : mark ≡ 1 → true ≡ is_polystar_mark mark
-  unfolding is_polystar_mark
-  mark_1 a = rw a
-
-  pub mark_2 : mark ≡ 2 → true ≡ is_polystar_mark mark
-  unfolding is_polystar_mark
-  mark_2 a = rw a
-
-  pub mark_5 : mark ≡ 5 → true ≡ is_polystar_mark mark
-  unfolding is_polystar_mark
-  mark_5 a = rw a
-
-  pub mark_6 : mark ≡ 6 → true ≡ is_polystar_mark mark
-  unfolding is_polystar_mark
-  mark_6 a = rw a
-
-  pub mark_other : (mark ≡ 1 → ⊥) → (mark ≡ 2 → ⊥) → (mark ≡ 5 → ⊥) → (mark ≡ 6 → ⊥) → false ≡ is_polystar_mark mark
-  unfolding is_polystar_mark
-  mark_other a b c d = rw (ne_eqb mark 1 a, ne_eqb mark 2 b, ne_eqb mark 5 c, ne_eqb mark 6 d)
-
-pub ruleset polystar_marks = (mark_1, mark_2, mark_5, mark_6, mark_other)
+use Rattle.item.specs.Rows.{is_mark, is_listed, entries_of}
+use Rattle.item.proofs.Entries.{entries_path, entries_rect, entries_ellipse, entries_none}
 
 -- ---- is_mark
 module _ (kind mark : ℕ) where
@@ -40,19 +16,15 @@ module _ (kind mark : ℕ) where
   unfolding is_mark
   path_mark a = rw a
 
-  pub star_mark : (t : Bool) → t ≡ is_polystar_mark mark → kind ≡ 4 → t ≡ is_mark kind mark
-  unfolding is_mark
-  star_mark t is a = rw a is
-
   pub merge_mark : kind ≡ 13 → leb mark 255 ≡ is_mark kind mark
   unfolding is_mark
   merge_mark a = rw a
 
-  pub no_mark : (kind ≡ 1 → ⊥) → (kind ≡ 4 → ⊥) → (kind ≡ 13 → ⊥) → eqb mark 0 ≡ is_mark kind mark
+  pub no_mark : (kind ≡ 1 → ⊥) → (kind ≡ 13 → ⊥) → eqb mark 0 ≡ is_mark kind mark
   unfolding is_mark
-  no_mark a b c = rw (ne_eqb kind 1 a, ne_eqb kind 4 b, ne_eqb kind 13 c)
+  no_mark a b = rw (ne_eqb kind 1 a, ne_eqb kind 13 b)
 
-pub ruleset marks = (path_mark, star_mark, merge_mark, no_mark)
+pub ruleset marks = (path_mark, merge_mark, no_mark)
 
 -- ---- is_listed
 module _ (row : ItemRow) where
@@ -98,13 +70,7 @@ module _ (row : ItemRow) where
   ellipse_entries e =
       sym (entries_ellipse row (ne_eqb row.kind 1 (λ h. omega arith)) (ne_eqb row.kind 2 (λ h. omega arith)) (eq-eqb row.kind 3 e))
 
-  pub polystar_entries : row.kind ≡ 4 → 8 ≡ entries_of row
-  polystar_entries e =
-      sym
-      (entries_polystar row (ne_eqb row.kind 1 (λ h. omega arith)) (ne_eqb row.kind 2 (λ h. omega arith)) (ne_eqb row.kind 3 (λ h. omega arith))
-      (eq-eqb row.kind 4 e))
+  pub no_entries : (row.kind ≡ 1 → ⊥) → (row.kind ≡ 2 → ⊥) → (row.kind ≡ 3 → ⊥) → 0 ≡ entries_of row
+  no_entries a b c = sym (entries_none row (ne_eqb row.kind 1 a) (ne_eqb row.kind 2 b) (ne_eqb row.kind 3 c))
 
-  pub no_entries : (row.kind ≡ 1 → ⊥) → (row.kind ≡ 2 → ⊥) → (row.kind ≡ 3 → ⊥) → (row.kind ≡ 4 → ⊥) → 0 ≡ entries_of row
-  no_entries a b c d = sym (entries_none row (ne_eqb row.kind 1 a) (ne_eqb row.kind 2 b) (ne_eqb row.kind 3 c) (ne_eqb row.kind 4 d))
-
-pub ruleset entries = (path_entries, rect_entries, ellipse_entries, polystar_entries, no_entries)
+pub ruleset entries = (path_entries, rect_entries, ellipse_entries, no_entries)

@@ -1,4 +1,4 @@
--- Item rows: six numbers each, lent as one list. The rules of document 01 for a row by itself, and document 02's for an ellipse (U1) and a polystar (U5).
+-- Item rows: six numbers each, lent as one list. The rules of document 01 for a row by itself, and document 02's for an ellipse (U1).
 -- Definitions only.
 use Rattle.std.specs.Prelude.{ℕ, ◌+◌, ◌*◌, Bool, cond, ◌&&◌, ◌||◌, List, eqb, leb, get_or}
 use Rattle.item.specs.declared.ItemRow.{ItemRow}
@@ -25,9 +25,6 @@ is_rect row = eqb row.kind 2
 abbrev pub is_ellipse : ItemRow → Bool
 is_ellipse row = eqb row.kind 3
 
-abbrev pub is_polystar : ItemRow → Bool
-is_polystar row = eqb row.kind 4
-
 -- what can be drawn: sh, rc, el, sr
 abbrev pub is_source : ItemRow → Bool
 is_source row = leb 1 row.kind && leb row.kind 4
@@ -50,18 +47,12 @@ is_visible row = eqb row.hidden 0
 
 -- ---- the rules
 
--- of an sr: '1 star, 2 polygon, plus 4 for direction 3'
-unfoldable pub is_polystar_mark : ℕ → Bool
-is_polystar_mark mark = eqb mark 1 || eqb mark 2 || eqb mark 5 || eqb mark 6
-
--- the marks that a kind may bear: a closed flag for sh, those above for sr, a mode for mm, where 0 is also that of none, else 0
+-- the marks that a kind may bear: a closed flag for sh, a mode for mm, where 0 is also that of none, else 0
 unfoldable pub is_mark : ℕ → ℕ → Bool
-unfolding is_polystar_mark
 is_mark kind mark =
     cond (eqb kind 1) (leb mark 1)
-    (cond (eqb kind 4) (is_polystar_mark mark)
     (cond (eqb kind 13) (leb mark 255)
-    (eqb mark 0)))
+    (eqb mark 0))
 
 -- A row with listed entries. The count is the vertex number of an sh, else 0; the place may be any.
 unfoldable pub is_listed : ItemRow → Bool
@@ -71,11 +62,10 @@ is_listed row =
     && (is_path row || eqb row.count 0)
 
 -- how many numbers a row has in the item list: six a vertex for sh; centre, size and roundness for rc; centre and size for el;
--- centre, points, two radii, two roundnesses and rotation for sr; a kind that is not drawn has none
+-- a kind that is not drawn has none
 unfoldable pub entries_of : ItemRow → ℕ
 entries_of row =
     cond (is_path row) (6 * row.count)
     (cond (is_rect row) 5
     (cond (is_ellipse row) 4
-    (cond (is_polystar row) 8
-    0)))
+    0))

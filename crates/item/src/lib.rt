@@ -1,13 +1,13 @@
 // One row of an item list, and the rules for a row by itself.
 ghost use Rattle.std.specs.Prelude.{◌≡◌, ◌+◌, ◌*◌, ◌≤◌, length};
-ghost use Rattle.item.specs.Rows.{item_row, is_polystar_mark, is_mark, is_listed, entries_of};
+ghost use Rattle.item.specs.Rows.{item_row, is_mark, is_listed, entries_of};
 
 #[derive(Drop)]
 pub struct ItemRow {
     pub kind: u32,
     pub hidden: u32,
     pub depth: u32,
-    // The closed flag of a path, the kind and direction of a polystar, or the mode of a merge.
+    // The closed flag of a path, or the mode of a merge.
     pub mark: u32,
     // Where its numbers start.
     pub place: usize,
@@ -31,26 +31,12 @@ pub fn item_row(rows: &[u32], r: usize) -> ItemRow
     }
 }
 
-// Whether a mark is a polystar's: a star or a polygon, in either direction.
-fn is_polystar_mark(mark: u32) -> bool
-    ensures { result ≡ is_polystar_mark mark }
-{
-    match mark {
-        1 => true,
-        2 => true,
-        5 => true,
-        6 => true,
-        _ => false,
-    }
-}
-
 // Whether a kind may bear a mark.
 fn is_mark(kind: u32, mark: u32) -> bool
     ensures { result ≡ is_mark kind mark }
 {
     match kind {
         1 => mark <= 1,
-        4 => is_polystar_mark(mark),
         13 => mark <= 255,
         _ => mark == 0,
     }
@@ -86,7 +72,6 @@ pub fn entries_of(row: ItemRow) -> usize
         1 => 6 * row.count,
         2 => 5,
         3 => 4,
-        4 => 8,
         _ => 0,
     }
 }

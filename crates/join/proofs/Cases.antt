@@ -6,7 +6,7 @@ use lib.Ieee.{Float, nan, binary32, mul, lt, le, sub, neg, sum, round, units, si
 use Rattle.ieee.specs.Choice.{min, clamp}
 use Rattle.ieee.specs.Fused.{fma}
 use Rattle.command.specs.declared.PathCommand.TheVariants.{Move, Line, Cubic, Close}
-use Rattle.command.specs.declared.Refusal.TheVariants.{Empty, TooMany, OutOfRange, Unlisted, NotMergeable, OutOfBounds, DegenerateStar}
+use Rattle.command.specs.declared.Refusal.TheVariants.{Empty, TooMany, OutOfRange, Unsupported, NotMergeable, OutOfBounds}
 use Rattle.command.specs.Outcomes.{refused, accepted}
 use Rattle.path.specs.Path.{path_commands}
 use Rattle.rect.specs.Bounds.{rect_bounds}
@@ -18,8 +18,8 @@ use Rattle.join.specs.Merge.{draw_merge}
 abbrev f : ℕ → Float
 f n = of_bits binary32 n
 
--- the six entries of a visible row at depth 0: an open path of so many vertices at a place, a rectangle and an ellipse at a place, a polystar
--- of a mark at a place, and an mm of mode 1
+-- the six entries of a visible row at depth 0: an open path of so many vertices at a place, a rectangle, an ellipse and a polystar at a place,
+-- and an mm of mode 1
 abbrev path : ℕ → ℕ → List ℕ
 path place count = 1 ∷ 0 ∷ 0 ∷ 0 ∷ place ∷ count ∷ []
 
@@ -29,8 +29,8 @@ rectangle place = 2 ∷ 0 ∷ 0 ∷ 0 ∷ place ∷ 0 ∷ []
 abbrev ellipse : ℕ → List ℕ
 ellipse place = 3 ∷ 0 ∷ 0 ∷ 0 ∷ place ∷ 0 ∷ []
 
-abbrev polystar : ℕ → ℕ → List ℕ
-polystar mark place = 4 ∷ 0 ∷ 0 ∷ mark ∷ place ∷ 0 ∷ []
+abbrev polystar : ℕ → List ℕ
+polystar place = 4 ∷ 0 ∷ 0 ∷ 0 ∷ place ∷ 0 ∷ []
 
 abbrev hidden_rectangle : ℕ → List ℕ
 hidden_rectangle place = 2 ∷ 1 ∷ 0 ∷ 0 ∷ place ∷ 0 ∷ []
@@ -80,20 +80,10 @@ nan_first : draw_merge (rectangle 0 ++ rectangle 7 ++ merge) 3 (nan ∷ rectangl
 unfolding draw_merge le
 nan_first = refl
 
--- a polystar of mark 0 is 4 before anything else; one whose eight numbers are not all there is 12, and one of two points whose inner radius is 0 is 13
-unmarked : draw_merge (path 0 1 ++ polystar 0 99 ++ merge) 3 rectangles ≡ refused Unlisted
+-- a polystar is 5 before its place is looked at; an ellipse whose numbers are not there is 12; a path without vertices is 1, and one of 1,025 is 2
+unsupported : draw_merge (path 0 1 ++ polystar 99 ++ merge) 3 rectangles ≡ refused Unsupported
 unfolding draw_merge le of_bits of_fields
-unmarked = refl
-
-polystar_outside : draw_merge (path 0 1 ++ polystar 2 3 ++ merge) 3 rectangles ≡ refused OutOfBounds
-unfolding draw_merge le of_bits of_fields
-polystar_outside = refl
-
-no_star : draw_merge (path 0 1 ++ polystar 1 0 ++ merge) 3 rectangles ≡ refused DegenerateStar
-unfolding draw_merge le of_bits of_fields
-no_star = refl
-
--- an ellipse whose numbers are not there is 12; a path without vertices is 1, and one of 1,025 is 2
+unsupported = refl
 
 ellipse_outside : draw_merge (path 0 1 ++ ellipse 7 ++ merge) 3 rectangles ≡ refused OutOfBounds
 unfolding draw_merge le of_bits of_fields

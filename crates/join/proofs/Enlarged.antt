@@ -1,5 +1,6 @@
--- A merge of enlarged items is the enlarged merge, where no polystar is joined: the refusals are the same, and every number of the commands is multiplied.
--- The numbers of rows that are not joined may differ freely. Assumes nothing.
+-- A merge of enlarged items is the enlarged merge: the refusals are the same, and every number of the commands is multiplied. The numbers of rows that
+-- are not joined may differ
+-- freely. Assumes nothing.
 use mathlib.Core.Path.{◌≡◌, refl}
 use mathlib.Core.List.{List, [], ◌∷◌, map}
 use Prim.Native.Nat.{ℕ, suc, ◌+◌, ◌≤◌, ◌<◌}
@@ -19,7 +20,7 @@ use Rattle.draw.specs.Items.{draw_source}
 use Rattle.draw.proofs.Enlarged.{source_outcome}
 use Rattle.merge.specs.Decision.{decision}
 use Rattle.join.specs.Merge.{followed_by, draw_sources, draw_joined, draw_merge}
-use Rattle.join.specs.Joined.{JoinedRow, NoPolystarJoined}
+use Rattle.join.specs.Joined.{JoinedRow}
 
 module _ {k q b : ℕ} where
   drawing_followed : {o o' p p' : Outcome (List PathCommand)} → DrawingTwin k q b o o' → DrawingTwin k q b p p' → DrawingTwin k q b (followed_by o p) (followed_by o' p')
@@ -41,11 +42,11 @@ sources_outcome k q b rows items items' (m ∷ ms) twins =
     drawing_followed (twins 0 (zero-lt-suc (length ms))) (sources_outcome k q b rows items items' ms (λ i h. twins (suc i) (omega arith)))
 
 -- the decision reads no number of the items, so it is the same for both
-pub merge_outcome : (k : ℕ) → k ≤ 6 → (rows : List ℕ) (n : ℕ) → NoPolystarJoined rows n → (items items' : List Float) → length items' ≡ length items
+pub merge_outcome : (k : ℕ) → k ≤ 6 → (rows : List ℕ) (n : ℕ) (items items' : List Float) → length items' ≡ length items
     → ((r : ItemRow) → JoinedRow rows n r → (j : ℕ) → r.place ≤ j → j < r.place + entries_of r → j < length items → Twin k 10 13 (get_or items j nan) (get_or items' j nan))
     → DrawingTwin k 35 16 (draw_merge rows n items) (draw_merge rows n items')
 unfolding draw_merge draw_joined
-merge_outcome k K rows n others items items' long twins = go (decision rows n) refl
+merge_outcome k K rows n items items' long twins = go (decision rows n) refl
   where
     go : (d : Outcome (List ℕ)) → decision rows n ≡ d → DrawingTwin k 35 16 (and_then d (draw_joined rows items)) (and_then d (draw_joined rows items'))
     go (refused r) e = drawing_refused r
@@ -53,5 +54,4 @@ merge_outcome k K rows n others items items' long twins = go (decision rows n) r
         sources_outcome k 35 16 rows items items' numbers
         (λ i h.
         let r : ItemRow = item_row rows (get_or numbers i 0) in
-        let joined : JoinedRow rows n r = record { numbers = numbers; decided = e; index = i; inside = h; is = refl } in
-        source_outcome k K r (others r joined) items items' long (twins r joined))
+        source_outcome k K r items items' long (twins r (record { numbers = numbers; decided = e; index = i; inside = h; is = refl })))

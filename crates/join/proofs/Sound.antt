@@ -1,13 +1,11 @@
--- What a merge answers is a sound command list, where no polystar is joined: every number of it is within the limit of command lists. And it is no longer than
--- such a list may be. Assumes nothing.
+-- What a merge answers is a sound command list: every number of it is within the limit of command lists, and it is no longer than such a list may be. Assumes nothing.
 use mathlib.Core.Path.{◌≡◌, refl, sym, ap, subst}
-use mathlib.Core.Bool.{true, false}
+use mathlib.Core.Bool.{true}
 use mathlib.Core.List.{List, [], ◌∷◌, ◌++◌, map}
-use Prim.Native.Nat.{ℕ, suc, ◌+◌, ◌*◌, ◌≤◌, ◌<◌}
-use native.Mathlib.Nat.{zero-lt-suc}
+use Prim.Native.Nat.{ℕ, ◌+◌, ◌*◌, ◌≤◌}
 use native.Mathlib.Omega.{arith}
 use lib.Ieee.{Float}
-use lib.ListN.{length, get_or, length-append, length-map}
+use lib.ListN.{length, length-append, length-map}
 use Rattle.ieee.specs.Limit.{all_within}
 use Rattle.ieee.proofs.Each.{within_append}
 use Rattle.command.specs.declared.PathCommand.{PathCommand}
@@ -16,13 +14,12 @@ use Rattle.command.specs.Outcomes.{Outcome, refused, accepted, and_then, list_of
 use Rattle.command.proofs.Outcomes.{refused_accepted}
 use Rattle.command.proofs.Lists.{numbers_append}
 use Rattle.item.specs.declared.ItemRow.{ItemRow}
-use Rattle.item.specs.Rows.{item_row, is_polystar}
+use Rattle.item.specs.Rows.{item_row}
 use Rattle.draw.specs.Items.{draw_source}
 use Rattle.draw.proofs.Sources.{source_few}
 use Rattle.draw.proofs.Sound.{SoundOutcome, refusal_sound, source_sound}
 use Rattle.merge.specs.Decision.{decision}
 use Rattle.join.specs.Merge.{followed_by, draw_sources, draw_joined, draw_merge}
-use Rattle.join.specs.Joined.{NoPolystarJoined}
 use Rattle.join.proofs.Joined.{joined_few}
 
 -- ---- the numbers
@@ -32,27 +29,21 @@ followed_sound (refused r) p O P = refusal_sound
 followed_sound (accepted cs) (refused r) O P = refusal_sound
 followed_sound (accepted cs) (accepted ds) O P = rw (numbers_append cs ds, within_append command_limit (numbers_of cs) (numbers_of ds), O, P)
 
-sources_sound : (rows : List ℕ) (items : List Float) (numbers : List ℕ) → ((i : ℕ) → i < length numbers → is_polystar (item_row rows (get_or numbers i 0)) ≡ false)
-    → SoundOutcome (draw_sources (map (item_row rows) numbers) items)
+sources_sound : (rs : List ItemRow) (items : List Float) → SoundOutcome (draw_sources rs items)
 unfolding draw_sources
-sources_sound rows items [] others = refusal_sound
-sources_sound rows items (m ∷ ms) others =
-    followed_sound (draw_source (item_row rows m) items) (draw_sources (map (item_row rows) ms) items)
-    (source_sound (item_row rows m) items (others 0 (zero-lt-suc (length ms)))) (sources_sound rows items ms (λ i h. others (suc i) (omega arith)))
+sources_sound [] items = refusal_sound
+sources_sound (r ∷ rs) items = followed_sound (draw_source r items) (draw_sources rs items) (source_sound r items) (sources_sound rs items)
 
-pub draw_merge_sound : (rows : List ℕ) (n : ℕ) (items : List Float) → NoPolystarJoined rows n → SoundOutcome (draw_merge rows n items)
+pub draw_merge_sound : (rows : List ℕ) (n : ℕ) (items : List Float) → SoundOutcome (draw_merge rows n items)
 unfolding draw_merge draw_joined
-draw_merge_sound rows n items others = go (decision rows n) refl
+draw_merge_sound rows n items = go (decision rows n)
   where
-    go : (d : Outcome (List ℕ)) → decision rows n ≡ d → SoundOutcome (and_then d (draw_joined rows items))
-    go (refused r) e = refusal_sound
-    go (accepted numbers) e =
-        sources_sound rows items numbers
-        (λ i h. others (item_row rows (get_or numbers i 0)) (record { numbers = numbers; decided = e; index = i; inside = h; is = refl }))
+    go : (d : Outcome (List ℕ)) → SoundOutcome (and_then d (draw_joined rows items))
+    go (refused r) = refusal_sound
+    go (accepted numbers) = sources_sound (map (item_row rows) numbers) items
 
-pub drawn_merge_sound : (rows : List ℕ) (n : ℕ) (items : List Float) (cs : List PathCommand) → NoPolystarJoined rows n → draw_merge rows n items ≡ accepted cs
-    → all_within command_limit (numbers_of cs) ≡ true
-drawn_merge_sound rows n items cs others e = subst SoundOutcome e (draw_merge_sound rows n items others)
+pub drawn_merge_sound : (rows : List ℕ) (n : ℕ) (items : List Float) (cs : List PathCommand) → draw_merge rows n items ≡ accepted cs → all_within command_limit (numbers_of cs) ≡ true
+drawn_merge_sound rows n items cs e = subst SoundOutcome e (draw_merge_sound rows n items)
 
 -- ---- the length: at most 255 sources of at most 1,026 commands
 followed_few : (o p : Outcome (List PathCommand)) (a b : ℕ) (es : List PathCommand) → ((cs : List PathCommand) → o ≡ accepted cs → length cs ≤ a) → ((ds : List PathCommand) → p ≡ accepted ds → length ds ≤ b)

@@ -12,7 +12,6 @@ use lib.Ieee.{Float}
 use lib.ListN.{length, take, drop, length-append}
 use lib.Seq.{sets, length-sets}
 use borrow.Author.Tests.{lt-leb, le-leb}
-use Rattle.ieee.specs.Limit.{all_within}
 use Rattle.command.specs.declared.PathCommand.{PathCommand}
 use Rattle.command.specs.declared.Refusal.{Refusal}
 use Rattle.command.specs.declared.Refusal.TheVariants.{BufferTooSmall}
@@ -31,7 +30,7 @@ use Rattle.item.specs.declared.ItemRow.{ItemRow}
 use Rattle.item.specs.Rows.{item_row, entries_of}
 use Rattle.draw.specs.declared.Checked.{Checked}
 use Rattle.draw.specs.declared.Checked.TheVariants.{Fault, Sound}
-use Rattle.draw.specs.Checks.{coordinate_limit, outcome_of}
+use Rattle.draw.specs.Checks.{outcome_of}
 use Rattle.draw.specs.Items.{has_no_vertices, shape_drawn, draw_source}
 use Rattle.draw.proofs.Ways.{sound_place, sound_fit, tail}
 use Rattle.draw.proofs.Sources.{DrawnSource, drawn_source, source_few, source_numbers_few}
@@ -216,9 +215,6 @@ module _ (row : ItemRow) (items : List Float) (t : Bool) (is : t ≡ is_source_r
     pub row_entries : row.place + entries_of row ≤ length items
     row_entries = row_met.passed.inside
 
-    pub row_within : all_within coordinate_limit (take (entries_of row) (drop row.place items)) ≡ true
-    row_within = row_met.passed.numbers_within
-
     -- the shape that is made draws what the row draws
     module _ (k : Checked) (k_is : outcome_of k items ≡ shape_drawn row (drop row.place items)) where
       row_drawn_as : outcome_of k items ≡ accepted (list_of (draw_row row items))
@@ -275,7 +271,6 @@ pub ruleset row_writes = (
   row_some,
   row_count,
   row_entries,
-  row_within,
   row_not_refused,
   sound_place,
   sound_fit,

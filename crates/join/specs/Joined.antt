@@ -1,7 +1,7 @@
 -- The rows that a merge joins. Definitions only.
-use Rattle.std.specs.Prelude.{ℕ, ◌<◌, ◌≡◌, false, List, length, get_or}
+use Rattle.std.specs.Prelude.{ℕ, ◌<◌, ◌≡◌, List, length, get_or}
 use Rattle.item.specs.declared.ItemRow.{ItemRow}
-use Rattle.item.specs.Rows.{item_row, is_polystar}
+use Rattle.item.specs.Rows.{item_row}
 use Rattle.command.specs.Outcomes.{accepted}
 use Rattle.merge.specs.Decision.{decision}
 
@@ -12,7 +12,3 @@ pub record JoinedRow (rows : List ℕ) (n : ℕ) (r : ItemRow) : Type 0 where
   pub index : ℕ
   pub inside : index < length numbers
   pub is : r ≡ item_row rows (get_or numbers index 0)
-
--- none of them is a polystar
-abbrev pub NoPolystarJoined : List ℕ → ℕ → Type 0
-NoPolystarJoined rows n = (r : ItemRow) → JoinedRow rows n r → is_polystar r ≡ false

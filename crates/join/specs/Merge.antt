@@ -11,7 +11,7 @@ use Rattle.merge.specs.Decision.{decision}
 unfoldable pub followed_by : Outcome (List PathCommand) → Outcome (List PathCommand) → Outcome (List PathCommand)
 followed_by o p = and_then o (λ (cs : List PathCommand). mapped (λ (ds : List PathCommand). cs ++ ds) p)
 
--- the sources judged by 1, 2, 12, 3, a polystar then by 2, 13, and drawn, one after another
+-- the sources judged by 5, 1, 2, 12, 3 and drawn, one after another
 unfoldable pub draw_sources : List ItemRow → List Float → Outcome (List PathCommand)
 unfolding followed_by draw_source
 draw_sources [] items = accepted []

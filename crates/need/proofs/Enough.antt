@@ -2,29 +2,25 @@
 use mathlib.Core.Path.{◌≡◌, refl, sym, ap, ◌∙◌}
 use mathlib.Core.Bool.{Bool, true, false, cond}
 use mathlib.Core.List.{List}
-use Prim.Native.Nat.{ℕ, ◌*◌, ◌≤◌}
+use Prim.Native.Nat.{ℕ}
 use lib.Ieee.{Float}
-use native.Mathlib.Nat.{le_refl, le_trans}
-use native.Mathlib.Omega.{arith}
 use lib.ListN.{drop}
 use Rattle.command.specs.declared.PathCommand.{PathCommand}
-use Rattle.command.specs.declared.Refusal.TheVariants.{Unlisted}
+use Rattle.command.specs.declared.Refusal.TheVariants.{Unsupported}
 use Rattle.command.specs.Outcomes.{Outcome, refused, accepted, value_or, list_of}
-use Rattle.command.specs.Buffers.{size_of, need_of, Within}
+use Rattle.command.specs.Buffers.{size_of, need_of}
 use Rattle.command.proofs.Outcomes.{refused_accepted, checks_passed}
 use Rattle.path.proofs.Counts.{path_codes, path_numbers}
-use Rattle.polystar.specs.Polystar.{is_star, point_count}
 use Rattle.shape.specs.declared.Shape.{Shape}
 use Rattle.shape.specs.declared.Shape.TheVariants.{Path, Ellipse}
 use Rattle.shape.specs.Shape.{path_room, rect_room, ellipse_room, enough_for}
 use Rattle.shape.proofs.Enough.{shape_enough}
 use Rattle.item.specs.declared.ItemRow.{ItemRow}
-use Rattle.item.specs.Rows.{item_row, is_path, is_rect, is_ellipse, is_polystar}
+use Rattle.item.specs.Rows.{item_row, is_path, is_rect, is_ellipse}
 use Rattle.draw.specs.Paths.{draw_path}
-use Rattle.draw.specs.Items.{rect_of, whole_points, polystar_shape, item_shape, draw_source, item_checks, draw_item}
-use Rattle.draw.proofs.Polystars.{made}
+use Rattle.draw.specs.Items.{rect_of, item_shape, draw_source, item_checks, draw_item}
 use Rattle.draw.proofs.Sources.{drawn_path, drawn_source}
-use Rattle.need.specs.Enough.{PathEnough, SourceEnough, ItemEnough, polystar_room, row_room}
+use Rattle.need.specs.Enough.{PathEnough, SourceEnough, ItemEnough, row_room}
 
 -- what has a need is drawn, and the need is the size of its commands
 pub drawn_needs : (o : Outcome (List PathCommand)) (need : ℕ × ℕ) → need_of o ≡ accepted need → (o ≡ accepted (list_of o)) × (size_of (list_of o) ≡ need)
@@ -38,44 +34,25 @@ path_enough closed v n need e =
     let s = drawn_path closed v n (list_of (draw_path closed v n)) d.0 in
     rw (← d.1, s.2) (path_codes closed v n s.0, path_numbers closed v n s.0)
 
--- within a room that is the same
-same_room : (n m : ℕ × ℕ) → n ≡ m → Within n m
-same_room n m e = rw e (le_refl m.0, le_refl m.1)
-
--- fewer points need less
-fewer : (mark whole : ℕ) → whole ≤ 512 → Within (path_room (point_count mark whole)) (polystar_room mark)
-fewer mark whole h = go (is_star mark)
-  where
-    go : (t : Bool) → Within (path_room (cond t (2 * whole) whole)) (path_room (cond t (2 * 512) 512))
-    go true = (omega arith, omega arith)
-    go false = (omega arith, omega arith)
-
-polystar_within : (mark : ℕ) (v : List Float) (s : Shape) → polystar_shape mark v ≡ accepted s → Within (enough_for s) (polystar_room mark)
-polystar_within mark v s e = let m = made mark v s e in rw m.2 (fewer mark (whole_points v) m.0)
-
--- the room of the shape that a row makes is within that of the row
-made_room : (row : ItemRow) (v : List Float) (s : Shape) → item_shape row v ≡ accepted s → Within (enough_for s) (row_room row)
+-- the room of a row is that of the shape that it makes
+made_room : (row : ItemRow) (v : List Float) (s : Shape) → item_shape row v ≡ accepted s → enough_for s ≡ row_room row
 unfolding item_shape row_room
-made_room row v s = go (is_path row) (is_rect row) (is_ellipse row) (is_polystar row)
+made_room row v s = go (is_path row) (is_rect row) (is_ellipse row)
   where
-    go : (p r l t : Bool)
-        → cond p (accepted (Path row.mark row.count))
-        (cond r (accepted (rect_of v)) (cond l (accepted Ellipse) (cond t (polystar_shape row.mark v) (refused Unlisted)))) ≡ accepted s
-        → Within (enough_for s) (cond p (path_room row.count) (cond r rect_room (cond l ellipse_room (polystar_room row.mark))))
-    go true r l t e = same_room (enough_for s) (path_room row.count) (ap enough_for (sym (ap (value_or s) e)))
-    go false true l t e = same_room (enough_for s) rect_room (ap enough_for (sym (ap (value_or s) e)))
-    go false false true t e = same_room (enough_for s) ellipse_room (ap enough_for (sym (ap (value_or s) e)))
-    go false false false true e = polystar_within row.mark v s e
-    go false false false false e = refused_accepted Unlisted s e
+    go : (p r l : Bool)
+        → cond p (accepted (Path row.mark row.count)) (cond r (accepted (rect_of v)) (cond l (accepted Ellipse) (refused Unsupported))) ≡ accepted s
+        → enough_for s ≡ cond p (path_room row.count) (cond r rect_room ellipse_room)
+    go true r l e = ap enough_for (sym (ap (value_or s) e))
+    go false true l e = ap enough_for (sym (ap (value_or s) e))
+    go false false true e = ap enough_for (sym (ap (value_or s) e))
+    go false false false e = refused_accepted Unsupported s e
 
 pub source_enough : SourceEnough
 source_enough row items need e =
     let d = drawn_needs (draw_source row items) need e in
     let s = drawn_source row items (list_of (draw_source row items)) d.0 in
     let v = drop row.place items in
-    let most = shape_enough s.shape v s.fits in
-    let room = made_room row v s.shape s.made in
-    rw (← d.1, s.commands) (le_trans most.0 room.0, le_trans most.1 room.1)
+    rw (← d.1, s.commands, ← (made_room row v s.shape s.made)) (shape_enough s.shape v s.fits)
 
 pub item_enough : ItemEnough
 unfolding draw_item

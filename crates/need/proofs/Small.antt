@@ -2,25 +2,23 @@
 use mathlib.Core.Path.{◌≡◌, refl}
 use mathlib.Core.Bool.{Bool, true, false, cond, not}
 use mathlib.Core.List.{List, [], ◌∷◌}
-use Prim.Native.Nat.{ℕ}
 use native.Mathlib.Omega.{arith}
 use lib.Dec.{eqb}
 use lib.Ieee.{Float}
 use lib.ListN.{drop}
 use borrow.Author.Tests.{ne_eqb}
 use Rattle.command.specs.declared.PathCommand.{PathCommand}
-use Rattle.command.specs.declared.Refusal.TheVariants.{BufferTooSmall, Unlisted}
+use Rattle.command.specs.declared.Refusal.TheVariants.{BufferTooSmall, Unsupported}
 use Rattle.command.specs.Refusals.{refusal_number}
 use Rattle.command.specs.Outcomes.{Outcome, refused, accepted, number_of, mapped, Check, checked}
 use Rattle.command.specs.Buffers.{fitted, in_buffers}
-use Rattle.polystar.specs.Polystar.{point_count}
 use Rattle.shape.specs.declared.Shape.{Shape}
-use Rattle.shape.specs.declared.Shape.TheVariants.{Path, Ellipse, Polystar}
+use Rattle.shape.specs.declared.Shape.TheVariants.{Path, Ellipse}
 use Rattle.shape.specs.Shape.{shape_commands}
 use Rattle.item.specs.declared.ItemRow.{ItemRow}
-use Rattle.item.specs.Rows.{item_row, is_path, is_rect, is_ellipse, is_polystar}
+use Rattle.item.specs.Rows.{item_row, is_path, is_rect, is_ellipse}
 use Rattle.draw.specs.Paths.{path_checks, draw_path}
-use Rattle.draw.specs.Items.{rect_of, whole_points, polystar_checks, polystar_shape, item_shape, source_checks, shape_drawn, draw_source, item_checks, draw_item}
+use Rattle.draw.specs.Items.{rect_of, item_shape, source_checks, shape_drawn, draw_source, item_checks, draw_item}
 use Rattle.need.specs.Enough.{SmallByNeed, PathSmall, ItemSmall}
 
 -- not refused by 11
@@ -57,32 +55,22 @@ path_small closed v n =
     small_by_need (draw_path closed v n)
     (checked_not_small (path_checks closed v n) _ (λ h. omega arith, (λ h. omega arith, (λ h. omega arith, (λ h. omega arith, (λ h. omega arith, tt))))) (λ h. omega arith))
 
-polystar_not_small : (mark : ℕ) (v : List Float) → NotSmall (polystar_shape mark v)
-unfolding polystar_shape
-polystar_not_small mark v =
-    checked_not_small (polystar_checks mark v) (accepted (Polystar mark (point_count mark (whole_points v)))) (λ h. omega arith, (λ h. omega arith, tt)) (λ h. omega arith)
-
 shape_not_small : (row : ItemRow) (v : List Float) → NotSmall (shape_drawn row v)
 unfolding shape_drawn item_shape
-shape_not_small row v = mapped_not_small (item_shape row v) (go (is_path row) (is_rect row) (is_ellipse row) (is_polystar row))
+shape_not_small row v = go (is_path row) (is_rect row) (is_ellipse row)
   where
-    mapped_not_small : (o : Outcome Shape) → NotSmall o → NotSmall (mapped (λ (s : Shape). shape_commands s v) o)
-    mapped_not_small (refused r) h = h
-    mapped_not_small (accepted s) h = h
-
-    go : (p r l t : Bool)
-        → NotSmall (cond p (accepted (Path row.mark row.count))
-        (cond r (accepted (rect_of v)) (cond l (accepted Ellipse) (cond t (polystar_shape row.mark v) (refused Unlisted)))))
-    go true r l t h = omega arith
-    go false true l t h = omega arith
-    go false false true t h = omega arith
-    go false false false true h = polystar_not_small row.mark v h
-    go false false false false h = omega arith
+    go : (p r l : Bool)
+        → NotSmall (mapped (λ (s : Shape). shape_commands s v)
+        (cond p (accepted (Path row.mark row.count)) (cond r (accepted (rect_of v)) (cond l (accepted Ellipse) (refused Unsupported)))))
+    go true r l h = omega arith
+    go false true l h = omega arith
+    go false false true h = omega arith
+    go false false false h = omega arith
 
 pub source_not_small : (row : ItemRow) (items : List Float) → NotSmall (draw_source row items)
 unfolding draw_source source_checks
 source_not_small row items =
-    checked_not_small (source_checks row items) _ (λ h. omega arith, (λ h. omega arith, (λ h. omega arith, (λ h. omega arith, tt))))
+    checked_not_small (source_checks row items) _ (λ h. omega arith, (λ h. omega arith, (λ h. omega arith, (λ h. omega arith, (λ h. omega arith, tt)))))
     (shape_not_small row (drop row.place items))
 
 pub item_small : ItemSmall

@@ -5,10 +5,9 @@ use Rattle.std.specs.Prelude.{ℕ, ◌≡◌, Bool, false, cond, not, ◌&&◌, 
 use Rattle.command.specs.declared.PathCommand.{PathCommand}
 use Rattle.command.specs.Outcomes.{Outcome, refused, accepted, number_of}
 use Rattle.command.specs.Buffers.{fitted, in_buffers, need_of, Within}
-use Rattle.polystar.specs.Polystar.{point_count}
 use Rattle.shape.specs.Shape.{path_room, rect_room, ellipse_room}
 use Rattle.item.specs.declared.ItemRow.{ItemRow}
-use Rattle.item.specs.Rows.{item_row, is_path, is_rect, is_ellipse}
+use Rattle.item.specs.Rows.{item_row, is_path, is_rect}
 use Rattle.draw.specs.Paths.{draw_path}
 use Rattle.draw.specs.Items.{draw_source, draw_item}
 
@@ -33,13 +32,9 @@ ItemSmall = (row : List ℕ) (items : List Float) → SmallByNeed (draw_item row
 abbrev pub PathEnough : Type 0
 PathEnough = (closed : ℕ) (v : List Float) (n : ℕ) (need : ℕ × ℕ) → need_of (draw_path closed v n) ≡ accepted need → Within need (path_room n)
 
--- for a polystar: 512 points are the most, with as many inner ones for a star
-abbrev pub polystar_room : ℕ → ℕ × ℕ
-polystar_room mark = path_room (point_count mark 512)
-
--- for a row, by its kind; a row that is drawn and is no path, no rectangle and no ellipse is a polystar
+-- for a row, by its kind; a row that is drawn and is no path and no rectangle is an ellipse
 unfoldable pub row_room : ItemRow → ℕ × ℕ
-row_room row = cond (is_path row) (path_room row.count) (cond (is_rect row) rect_room (cond (is_ellipse row) ellipse_room (polystar_room row.mark)))
+row_room row = cond (is_path row) (path_room row.count) (cond (is_rect row) rect_room ellipse_room)
 
 abbrev pub SourceEnough : Type 0
 SourceEnough = (row : ItemRow) (items : List Float) (need : ℕ × ℕ) → need_of (draw_source row items) ≡ accepted need → Within need (row_room row)

@@ -2,17 +2,17 @@
 use mathlib.Core.Path.{ap}
 use mathlib.Core.Bool.{Bool, true, false, cond}
 use mathlib.Core.List.{List, [], ◌∷◌, ◌++◌}
-use Prim.Native.Nat.{ℕ, ◌+◌, ◌*◌, ◌≤◌, ◌<◌}
+use Prim.Native.Nat.{ℕ, zero, suc, ◌+◌, ◌*◌, ◌≤◌, ◌<◌}
 use native.Mathlib.Nat.{not-suc-le-zero}
 use native.Mathlib.Omega.{arith}
 use lib.Dec.{eqb}
 use lib.Ieee.{Float}
-use lib.ListN.{length, length-append}
+use lib.ListN.{length, drop, length-append}
 use Rattle.command.specs.declared.PathCommand.TheVariants.{Close}
 use Rattle.command.specs.Commands.{codes_of, numbers_of}
 use Rattle.command.proofs.Lists.{numbers_few, numbers_append, codes_length}
 use Rattle.path.specs.declared.BezierVertex.{BezierVertex}
-use Rattle.path.specs.Path.{vertices_of, bezier_segments, bezier_path, path_commands}
+use Rattle.path.specs.Path.{vertex_at, vertices_of, bezier_segments, bezier_path, path_commands}
 use Rattle.path.proofs.Paths.{vertices_length, segments_length, path_commands_length}
 
 -- codes
@@ -28,21 +28,27 @@ path_codes closed v n h = rw (codes_length (path_commands closed v n), path_comm
 segments_few : (a : BezierVertex) (bs : List BezierVertex) → length (numbers_of (bezier_segments a bs)) ≤ 6 * length bs
 segments_few a bs = rw segments_length at (numbers_few (bezier_segments a bs))
 
-pub bezier_numbers : (closed : Bool) (vs : List BezierVertex) → 0 < length vs → length (numbers_of (bezier_path closed vs)) ≤ 6 * length vs + 2
-unfolding bezier_path
-bezier_numbers closed [] h = absurd (not-suc-le-zero h)
-bezier_numbers closed (a ∷ []) h = omega arith
-bezier_numbers false (a ∷ (b ∷ bs)) h = omega (arith, segments_few a (b ∷ bs))
-bezier_numbers true (a ∷ (b ∷ bs)) h =
-    let round : List BezierVertex = (b ∷ bs) ++ a ∷ [] in
+few : (c : Bool) (n : ℕ) (v : List Float) → 0 < n → length (numbers_of (bezier_path c (vertices_of n v))) ≤ 6 * n + 2
+unfolding bezier_path vertices_of
+few c zero v h = absurd (not-suc-le-zero h)
+few c (suc zero) v h = omega arith
+few false (suc (suc m)) v h =
     omega (
       arith,
-      segments_few a round,
-      length-append (b ∷ bs) (a ∷ []),
-      ap length (numbers_append (bezier_segments a round) (Close ∷ [])),
-      length-append (numbers_of (bezier_segments a round)) [],
+      segments_few (vertex_at v 0) (vertex_at (drop 6 v) 0 ∷ vertices_of m (drop 6 (drop 6 v))),
+      vertices_length m (drop 6 (drop 6 v)),
+    )
+few true (suc (suc m)) v h =
+    let bs : List BezierVertex = (vertex_at (drop 6 v) 0 ∷ vertices_of m (drop 6 (drop 6 v))) ++ vertex_at v 0 ∷ [] in
+    omega (
+      arith,
+      segments_few (vertex_at v 0) bs,
+      length-append (vertex_at (drop 6 v) 0 ∷ vertices_of m (drop 6 (drop 6 v))) (vertex_at v 0 ∷ []),
+      vertices_length m (drop 6 (drop 6 v)),
+      ap length (numbers_append (bezier_segments (vertex_at v 0) bs) (Close ∷ [])),
+      length-append (numbers_of (bezier_segments (vertex_at v 0) bs)) [],
     )
 
 pub path_numbers : (closed : ℕ) (v : List Float) (n : ℕ) → 0 < n → length (numbers_of (path_commands closed v n)) ≤ 6 * n + 2
 unfolding path_commands
-path_numbers closed v n h = rw (vertices_length n v) at (bezier_numbers (eqb closed 1) (vertices_of n v) (rw (vertices_length n v) h))
+path_numbers closed v n h = few (eqb closed 1) n v h

@@ -1,4 +1,4 @@
--- Laws of numbered vertices, and of `path_commands`: its length, and the command at each place. Assumes nothing.
+-- Laws of `path_commands`: its length, and the command at each place. Assumes nothing.
 use mathlib.Core.Path.{◌≡◌, refl, ap, ap₂, ◌∙◌}
 use mathlib.Core.Bool.{Bool, true, false, cond}
 use mathlib.Core.List.{List, [], ◌∷◌, ◌++◌}
@@ -10,12 +10,11 @@ use lib.Seq.{get_or-drop, get_or-append_seam}
 use lib.Ieee.{Float, nan}
 use lib.Dec.{eqb}
 use borrow.Author.Tests.{ne_eqb}
-use mir.Val.{Fits}
-use mir.Syntax.{w64}
+use Rattle.path.specs.Path.{path_commands, bezier_count}
 use Rattle.command.specs.declared.PathCommand.{PathCommand}
 use Rattle.command.specs.declared.PathCommand.TheVariants.{Close}
 use Rattle.path.specs.declared.BezierVertex.{BezierVertex}
-use Rattle.path.specs.Path.{vertex_at, vertices_of, vertices_from, bezier_segment, bezier_segments, bezier_path, bezier_count, path_commands, Sound}
+use Rattle.path.specs.Path.{vertex_at, vertices_of, bezier_segment, bezier_segments, bezier_path}
 
 -- ---- the vertices
 
@@ -25,7 +24,7 @@ shift_one v k j = get_or-drop 6 v (6 * k + j) nan ∙ ap (λ (m : ℕ). get_or v
 shift_first : (v : List Float) (k : ℕ) → get_or (drop 6 v) (6 * k) nan ≡ get_or v (6 * suc k) nan
 shift_first v k = get_or-drop 6 v (6 * k) nan ∙ ap (λ (m : ℕ). get_or v m nan) (omega arith)
 
-shift : (v : List Float) (k : ℕ) → vertex_at (drop 6 v) k ≡ vertex_at v (suc k)
+pub shift : (v : List Float) (k : ℕ) → vertex_at (drop 6 v) k ≡ vertex_at v (suc k)
 shift v k = λ i. record {
   x = shift_first v k i;
   y = shift_one v k 1 i;
@@ -35,43 +34,16 @@ shift v k = λ i. record {
   oy = shift_one v k 5 i;
 }
 
--- vertices worked out by number
-module _ (vertex : ℕ → BezierVertex) where
-  pub from_length : (k n : ℕ) → length (vertices_from vertex k n) ≡ n
-  unfolding vertices_from
-  from_length k zero = refl
-  from_length k (suc n) = ap suc (from_length (suc k) n)
-
-  pub from_at : (k n j : ℕ) (d : BezierVertex) → j < n → get_or (vertices_from vertex k n) j d ≡ vertex (k + j)
-  unfolding vertices_from
-  from_at k zero j d h = absurd (not-suc-le-zero h)
-  from_at k (suc n) zero d h = ap vertex (omega arith)
-  from_at k (suc n) (suc j) d h = from_at (suc k) n j d (le_of_suc-le-suc h) ∙ ap vertex (omega arith)
-
--- the same vertices, numbered one higher
-from_shift : (lower higher : ℕ → BezierVertex) → ((k : ℕ) → lower k ≡ higher (suc k)) → (k n : ℕ) → vertices_from lower k n ≡ vertices_from higher (suc k) n
-unfolding vertices_from
-from_shift lower higher same k zero = refl
-from_shift lower higher same k (suc n) = ap₂ ◌∷◌ (same k) (from_shift lower higher same (suc k) n)
-
--- the vertices of a list are numbered ones
-pub listed : (n : ℕ) (v : List Float) → vertices_of n v ≡ vertices_from (vertex_at v) 0 n
-unfolding vertices_of vertices_from
-listed zero v = refl
-listed (suc n) v = ap (λ (vs : List BezierVertex). vertex_at v 0 ∷ vs) (listed n (drop 6 v) ∙ from_shift (vertex_at (drop 6 v)) (vertex_at v) (shift v) 0 n)
-
 pub vertices_length : (n : ℕ) (v : List Float) → length (vertices_of n v) ≡ n
-vertices_length n v = ap length (listed n v) ∙ from_length (vertex_at v) 0 n
+unfolding vertices_of
+vertices_length zero v = refl
+vertices_length (suc n) v = ap suc (vertices_length n (drop 6 v))
 
-vertices_at : (n : ℕ) (v : List Float) (k : ℕ) (d : BezierVertex) → k < n → get_or (vertices_of n v) k d ≡ vertex_at v k
-vertices_at n v k d h = ap (λ (vs : List BezierVertex). get_or vs k d) (listed n v) ∙ from_at (vertex_at v) 0 n k d h ∙ ap (vertex_at v) (omega arith)
-
--- ---- how many they are, by the checks
-pub few_vertices : (v : List Float) (count : ℕ) → Sound v count → count ≤ 1024
-few_vertices v count s = s.few
-
-pub next_fits : (count : ℕ) → count ≤ 1024 → (k : ℕ) → k < count → Fits w64 (k + 1)
-next_fits count few k h = record { fits = omega arith }
+pub vertices_at : (n : ℕ) (v : List Float) (k : ℕ) (d : BezierVertex) → k < n → get_or (vertices_of n v) k d ≡ vertex_at v k
+unfolding vertices_of
+vertices_at zero v k d h = absurd (not-suc-le-zero h)
+vertices_at (suc n) v zero d h = refl
+vertices_at (suc n) v (suc k) d h = vertices_at n (drop 6 v) k d (le_of_suc-le-suc h) ∙ shift v k
 
 -- ---- the segments
 
@@ -92,10 +64,10 @@ pub last_of : BezierVertex → List BezierVertex → BezierVertex
 last_of a [] = a
 last_of a (b ∷ bs) = last_of b bs
 
-pub last_from : (vertex : ℕ → BezierVertex) (k n : ℕ) → last_of (vertex k) (vertices_from vertex (suc k) n) ≡ vertex (k + n)
-unfolding vertices_from last_of
-last_from vertex k zero = ap vertex (omega arith)
-last_from vertex k (suc n) = last_from vertex (suc k) n ∙ ap vertex (omega arith)
+pub last_vertex : (v : List Float) (n : ℕ) → last_of (vertex_at v 0) (vertices_of n (drop 6 v)) ≡ vertex_at v n
+unfolding vertices_of last_of
+last_vertex v zero = refl
+last_vertex v (suc n) = last_vertex (drop 6 v) n ∙ shift v n
 
 -- one vertex more is one segment more, from the last
 pub segments_more : (a : BezierVertex) (bs : List BezierVertex) (c : BezierVertex)
@@ -106,15 +78,13 @@ segments_more a (b ∷ bs) c = ap (λ (cs : List PathCommand). bezier_segment a 
 
 -- ---- the path
 
-pub bezier_length : (c : Bool) (vs : List BezierVertex) → 1 < length vs → length (bezier_path c vs) ≡ cond c (length vs + 2) (length vs)
-unfolding bezier_path
-bezier_length c [] h = absurd (not-suc-le-zero h)
-bezier_length c (a ∷ []) h = absurd (not-suc-le-zero (le_of_suc-le-suc h))
-bezier_length false (a ∷ (b ∷ bs)) h = rw segments_length
-bezier_length true (a ∷ (b ∷ bs)) h = rw (length-append, segments_length, length-append) (omega arith)
-
 pub path_length_lem : (c : Bool) (n : ℕ) (v : List Float) → 1 < n → length (bezier_path c (vertices_of n v)) ≡ cond c (n + 2) n
-path_length_lem c n v h = rw (vertices_length n v) at (bezier_length c (vertices_of n v) (rw (vertices_length n v) h))
+unfolding vertices_of bezier_path
+path_length_lem c zero v h = absurd (not-suc-le-zero h)
+path_length_lem c (suc zero) v h = absurd (not-suc-le-zero (le_of_suc-le-suc h))
+path_length_lem false (suc (suc m)) v h = rw (segments_length, vertices_length m (drop 6 (drop 6 v)))
+path_length_lem true (suc (suc m)) v h =
+    rw (length-append, segments_length, length-append, vertices_length m (drop 6 (drop 6 v))) (omega arith)
 
 inner : (c : Bool) (a b : BezierVertex) (bs : List BezierVertex) (j : ℕ) (d : BezierVertex) → j < length (b ∷ bs)
     → get_or (bezier_path c (a ∷ (b ∷ bs))) (suc j) Close ≡ bezier_segment (get_or (a ∷ (b ∷ bs)) j d) (get_or (b ∷ bs) j d)

@@ -18,7 +18,7 @@ fn segment_code(line: bool) -> u8
 
 // Writes a segment which two numbers or more are to follow, with no branch on what it is: its control points, and then its end,
 // which of a line stands in the place of the first. The second is left after it, where what follows will stand.
-pub fn put_followed(
+fn put_followed(
     a: BezierVertex,
     b: BezierVertex,
     codes: &mut [u8],
@@ -40,13 +40,7 @@ pub fn put_followed(
 }
 
 // Writes a command, and no other place.
-pub fn put(
-    command: PathCommand,
-    codes: &mut [u8],
-    i: usize,
-    numbers: &mut [f32],
-    at: usize,
-) -> usize
+fn put(command: PathCommand, codes: &mut [u8], i: usize, numbers: &mut [f32], at: usize) -> usize
     requires i_in_bounds { i < length codes.old }
     requires command_in_bounds { at + length (coordinates_of command) ≤ length numbers.old }
     ensures value { result ≡ at + length (coordinates_of command) }
@@ -71,12 +65,12 @@ fn write_segments(
     requires sound { Sound vertices.now count }
     requires lt_count { 1 < count }
     requires first_value { first ≡ vertex_at vertices.now 0 }
-    requires count_in_bounds { i + length (codes_of (segments_between (vertex_at vertices.now) count)) ≤ length codes.old }
-    requires count_in_bounds_2 { j + length (numbers_of (segments_between (vertex_at vertices.now) count)) ≤ length numbers.old }
+    requires count_in_bounds { i + length (codes_of (segments_between vertices.now count)) ≤ length codes.old }
+    requires count_in_bounds_2 { j + length (numbers_of (segments_between vertices.now count)) ≤ length numbers.old }
     ensures vertex_value { result.vertex ≡ vertex_at vertices.now (count - 1) }
-    ensures at_value { result.at ≡ j + length (numbers_of (segments_between (vertex_at vertices.now) count)) }
-    ensures codes_after { codes.new ≡ sets codes.old i (codes_of (segments_between (vertex_at vertices.now) count)) }
-    ensures numbers_after { numbers.new ≡ sets numbers.old j (numbers_of (segments_between (vertex_at vertices.now) count)) }
+    ensures at_value { result.at ≡ j + length (numbers_of (segments_between vertices.now count)) }
+    ensures codes_after { codes.new ≡ sets codes.old i (codes_of (segments_between vertices.now count)) }
+    ensures numbers_after { numbers.new ≡ sets numbers.old j (numbers_of (segments_between vertices.now count)) }
 {
     let last = count - 2;
     let mut a = first;
@@ -130,7 +124,7 @@ fn write_open(
 }
 
 // Writes the segment from the last vertex back to the first, and the close.
-pub fn write_back(
+fn write_back(
     last: BezierVertex,
     first: BezierVertex,
     codes: &mut [u8],

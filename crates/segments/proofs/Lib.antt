@@ -1,3 +1,2 @@
 -- What the proofs of `segments` cite.
-pub mod Tally
 pub mod Ways

@@ -33,8 +33,8 @@ fn four_leave(vertices: &[f32], j: usize) -> bool
 // A vertex before which there are only cubics. A list of cubics is passed over four at a time, up to its last few.
 fn cubics_before(vertices: &[f32], count: usize) -> usize
     requires { Sound vertices.now count }
-    ensures { (result < count) × (6 * result + length (numbers_of (drop result (segments_between (vertex_at vertices.now) count)))
-        ≡ length (numbers_of (segments_between (vertex_at vertices.now) count))) }
+    ensures { (result < count) × (6 * result + length (numbers_of (drop result (segments_between vertices.now count)))
+        ≡ length (numbers_of (segments_between vertices.now count))) }
 {
     let mut j: usize = 0;
     while j + 4 < count {
@@ -66,7 +66,7 @@ fn numbers_between(first: BezierVertex, vertices: &[f32], count: usize) -> Reach
     requires sound { Sound vertices.now count }
     requires first_value { first ≡ vertex_at vertices.now 0 }
     ensures vertex_value { result.vertex ≡ vertex_at vertices.now (count - 1) }
-    ensures at_value { result.at ≡ 2 + length (numbers_of (segments_between (vertex_at vertices.now) count)) }
+    ensures at_value { result.at ≡ 2 + length (numbers_of (segments_between vertices.now count)) }
 {
     let mut j = cubics_before(vertices, count);
     let mut a = vertex_from(first, vertices, j);

@@ -29,12 +29,10 @@ use Rattle.rect.specs.Rect.{epsilon, plain_rect, round_rect, rect_path}
 use Rattle.rect.proofs.Ways.{rect_plain, rect_round}
 use Rattle.ellipse.specs.Ellipse.{ellipse_in, ellipse_path}
 use Rattle.ellipse.proofs.Ways.{ellipse_count, ellipse_numbers}
-use Rattle.polystar.specs.declared.Polystar as declared
-use Rattle.polystar.specs.Polystar.{polystar_of, polystar_path}
 use Rattle.shape.specs.declared.Shape.{Shape}
-use Rattle.shape.specs.declared.Shape.TheVariants.{Path, Rect, Ellipse, Polystar}
-use Rattle.shape.specs.Shape.{bounds_of, shape_commands, Fit, path_room, enough_for}
-use Rattle.shape.proofs.Enough.{polystar_count, shape_enough}
+use Rattle.shape.specs.declared.Shape.TheVariants.{Path, Rect, Ellipse}
+use Rattle.shape.specs.Shape.{bounds_of, shape_commands, Fit}
+use Rattle.shape.proofs.Enough.{shape_enough}
 
 -- ---- a path
 module _ (closed count : ℕ) (v : List Float) (fit : Fit (Path closed count) v) where
@@ -114,49 +112,6 @@ module _ (v : List Float) where
 pub ellipse_fit : (s : Shape) (v : List Float) → s ≡ Ellipse → Fit s v → Fit Ellipse v
 ellipse_fit s v is fit = rw is at fit
 
--- ---- a polystar
-module _ (mark count : ℕ) (v : List Float) where
-  pub polystar_codes : Fit (Polystar mark count) v → count + 2 ≡ length (shape_commands (Polystar mark count) v)
-  polystar_codes fit = sym (polystar_count mark count v fit)
-
-  module _ (star : declared.Polystar) (is : star ≡ polystar_of mark count v) where
-    same : polystar_path star ≡ shape_commands (Polystar mark count) v
-    unfolding shape_commands
-    same = ap polystar_path is
-
-    pub polystar_numbers : (m : ℕ) → m ≡ length (numbers_of (polystar_path star)) → m ≡ length (numbers_of (shape_commands (Polystar mark count) v))
-    polystar_numbers m e = rw (← same) e
-
-    module _ (i : ℕ) where
-      pub star_codes_room : (n : ℕ) → i + length (codes_of (shape_commands (Polystar mark count) v)) ≤ n → i + length (codes_of (polystar_path star)) ≤ n
-      star_codes_room n h = rw same h
-
-      pub star_numbers_room : (n : ℕ) → i + length (numbers_of (shape_commands (Polystar mark count) v)) ≤ n → i + length (numbers_of (polystar_path star)) ≤ n
-      star_numbers_room n h = rw same h
-
-      pub star_codes_place : (n : ℕ) → n ≡ i + length (codes_of (polystar_path star)) → n ≡ i + length (codes_of (shape_commands (Polystar mark count) v))
-      star_codes_place n e = rw (← same) e
-
-      pub star_place : (n : ℕ) → n ≡ i + length (numbers_of (polystar_path star)) → n ≡ i + length (numbers_of (shape_commands (Polystar mark count) v))
-      star_place n e = rw (← same) e
-
-      pub star_codes_are : (codes codes' : List ℕ) → codes' ≡ sets codes i (codes_of (polystar_path star))
-          → codes' ≡ sets codes i (codes_of (shape_commands (Polystar mark count) v))
-      star_codes_are codes codes' e = rw (← same) e
-
-      pub star_written : (numbers numbers' : List Float) → numbers' ≡ sets numbers i (numbers_of (polystar_path star))
-          → numbers' ≡ sets numbers i (numbers_of (shape_commands (Polystar mark count) v))
-      star_written numbers numbers' e = rw (← same) e
-
-pub ruleset polystars = (star_codes_room, star_numbers_room, star_codes_place, star_place, star_codes_are, star_written)
-
-module _ (s : Shape) (v : List Float) (mark count : ℕ) (is : s ≡ Polystar mark count) (fit : Fit s v) where
-  pub polystar_fit : Fit (Polystar mark count) v
-  polystar_fit = rw is at fit
-
-  pub polystar_few : count ≤ 1024
-  polystar_few = polystar_fit.few
-
 pub size_is : (cs : List PathCommand) (n m : ℕ) → n ≡ length cs → m ≡ length (numbers_of cs) → (n, m) ≡ size_of cs
 size_is cs n m e f = rw (codes_length cs, ← e, ← f)
 
@@ -215,34 +170,29 @@ pub ruleset ellipse_loops = (ellipse_is, ellipse_six, command_is, writes, afters
 
 pub ruleset path_needs = (path_few, path_count, path_numbers, size_is)
 
-pub ruleset polystar_needs = (polystar_codes, polystar_numbers, size_is)
-
 pub ruleset path_arms = (path_fit, path_few, path_count, path_numbers, path_codes_room, path_numbers_room, codes_fit, six_fits, two_more_fit)
 
 pub ruleset rect_arms = (rect_fit, rect_count, rect_numbers)
 
 pub ruleset ellipse_arms = (ellipse_fit, ellipse_six, ellipse_few)
 
-pub ruleset arms = (path_arms, rect_arms, ellipse_arms, polystar_fit, need_is, counts_are, codes_room, numbers_room, codes_place_is, place_is, codes_are, written)
+pub ruleset arms = (path_arms, rect_arms, ellipse_arms, need_is, counts_are, codes_room, numbers_room, codes_place_is, place_is, codes_are, written)
 
 -- ---- is_ample, holds and fits
--- a shape for which the room of so many vertices is enough
-module _ (s : Shape) (v : List Float) (count codes numbers : ℕ) (fit : Fit s v) (e : leb (count + 2) codes && leb (6 * count + 2) numbers ≡ true) where
-  ample : enough_for s ≡ path_room count → in_buffers codes numbers (shape_commands s v) ≡ true
-  ample room =
-      let most = rw room at (shape_enough s v fit) in
-      let held = (and-eq-true_iff (leb (count + 2) codes) (leb (6 * count + 2) numbers)).0 e in
-      let a = leb-true (count + 2) codes held.0 in
-      let b = leb-true (6 * count + 2) numbers held.1 in
-      rw (le-leb (size_of (shape_commands s v)).0 codes (omega arith), le-leb (size_of (shape_commands s v)).1 numbers (omega arith))
+pub path_ample : (s : Shape) (v : List Float) (closed count codes numbers : ℕ) → s ≡ Path closed count → Fit s v
+    → leb (count + 2) codes && leb (6 * count + 2) numbers ≡ true → in_buffers codes numbers (shape_commands s v) ≡ true
+path_ample s v closed count codes numbers is fit e =
+    let most = shape_enough (Path closed count) v (path_fit s v closed count is fit) in
+    let held = (and-eq-true_iff (leb (count + 2) codes) (leb (6 * count + 2) numbers)).0 e in
+    let a = leb-true (count + 2) codes held.0 in
+    let b = leb-true (6 * count + 2) numbers held.1 in
+    rw (
+      is,
+      le-leb (size_of (shape_commands (Path closed count) v)).0 codes (omega arith),
+      le-leb (size_of (shape_commands (Path closed count) v)).1 numbers (omega arith),
+    )
 
-  pub path_ample : (closed : ℕ) → s ≡ Path closed count → in_buffers codes numbers (shape_commands s v) ≡ true
-  path_ample closed is = ample (ap enough_for is)
-
-  pub polystar_ample : (mark : ℕ) → s ≡ Polystar mark count → in_buffers codes numbers (shape_commands s v) ≡ true
-  polystar_ample mark is = ample (ap enough_for is)
-
-pub ruleset amples = (path_few, polystar_few, codes_fit, six_fits, two_more_fit)
+pub ruleset amples = (path_few, codes_fit, six_fits, two_more_fit)
 
 pub both_held : (a b : ℕ) (t : Bool) → a ≤ b → t ≡ (leb a b && t)
 both_held a b t h = rw (le-leb a b h)

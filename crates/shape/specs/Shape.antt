@@ -7,31 +7,28 @@ use Rattle.rect.specs.declared.Bounds.{Bounds}
 use Rattle.rect.specs.Bounds.{rect_bounds}
 use Rattle.rect.specs.Rect.{rect_path}
 use Rattle.ellipse.specs.Ellipse.{ellipse_path}
-use Rattle.polystar.specs.Polystar.{polystar_of, polystar_path, Drawable}
 use Rattle.shape.specs.declared.Shape.{Shape}
-use Rattle.shape.specs.declared.Shape.TheVariants.{Path, Rect, Ellipse, Polystar}
+use Rattle.shape.specs.declared.Shape.TheVariants.{Path, Rect, Ellipse}
 
 -- the box whose centre and size are the first four numbers of v
 abbrev pub bounds_of : List Float → Bounds
 bounds_of v = rect_bounds (get_or v 0 nan) (get_or v 1 nan) (get_or v 2 nan) (get_or v 3 nan)
 
--- the commands of a shape whose numbers are the first ones of v: six a vertex, centre and size, or a polystar's eight
+-- the commands of a shape whose numbers are the first ones of v: six a vertex, or centre and size
 unfoldable pub shape_commands : Shape → List Float → List PathCommand
 shape_commands (Path closed count) v = path_commands closed v count
 shape_commands (Rect radius) v = rect_path (bounds_of v) radius
 shape_commands Ellipse v = ellipse_path (get_or v 0 nan) (get_or v 1 nan) (get_or v 2 nan) (get_or v 3 nan)
-shape_commands (Polystar mark count) v = polystar_path (polystar_of mark count v)
 
 -- what the checks leave to the drawing of a shape
 abbrev pub Fit : Shape → List Float → Type 0
 Fit (Path closed count) v = Sound v count
 Fit (Rect radius) v = 4 ≤ length v
 Fit Ellipse v = 4 ≤ length v
-Fit (Polystar mark count) v = Drawable count v
 
 -- ---- Room that is enough for a shape, whatever its numbers: what it needs is within this (`shape_enough` in proofs/Enough.antt).
 
--- n vertices, open or closed: document 01's 'n + 2 codes and 6n + 2 numbers for n vertices, never less than a drawing writes'; a polystar's points are such
+-- n vertices, open or closed: document 01's 'n + 2 codes and 6n + 2 numbers for n vertices, never less than a drawing writes'
 abbrev pub path_room : ℕ → ℕ × ℕ
 path_room n = (n + 2, 6 * n + 2)
 
@@ -47,4 +44,3 @@ abbrev pub enough_for : Shape → ℕ × ℕ
 enough_for (Path closed count) = path_room count
 enough_for (Rect radius) = rect_room
 enough_for Ellipse = ellipse_room
-enough_for (Polystar mark count) = path_room count

@@ -4,7 +4,7 @@ ghost use Rattle.std.proofs.lemmas.List.Edits.{sets};
 ghost use Rattle.command.specs.Commands.{codes_of, numbers_of};
 ghost use Rattle.command.specs.Outcomes.{accepted, counts_number, first_count, second_count};
 ghost use Rattle.command.specs.Buffers.{fitted, in_buffers, FilledBoth, size_of, pair_of};
-ghost use Rattle.shape.specs.declared.Shape.TheVariants.{Path, Rect, Ellipse, Polystar};
+ghost use Rattle.shape.specs.declared.Shape.TheVariants.{Path, Rect, Ellipse};
 ghost use Rattle.shape.specs.Shape.{bounds_of, shape_commands, Fit};
 
 use command::{Counts, Refusal, Size};
@@ -19,8 +19,6 @@ pub enum Shape {
     Rect(f32),
     // The list has the centre and the size.
     Ellipse,
-    // The mark, and how many points, inner ones too. The list has the eight numbers of a polystar.
-    Polystar(u32, usize),
 }
 
 // What a path needs: each of its segments may be a line or a cubic, so all are looked at. A vertex list, known to be a path,
@@ -35,19 +33,7 @@ pub fn need_of_path(closed: u32, count: usize, list: &[f32]) -> Size
     }
 }
 
-// What a polystar needs: each of its points is worked out, since a segment may be a line or a cubic here too.
-fn need_of_polystar(mark: u32, count: usize, list: &[f32]) -> Size
-    requires { Fit (Polystar mark count) list.now }
-    ensures { pair_of result ≡ size_of (shape_commands (Polystar mark count) list.now) }
-{
-    Size {
-        codes: count + 2,
-        numbers: star_path::star_numbers(polystar::polystar_of(mark, count, list)),
-    }
-}
-
-// What a shape needs, exactly: the one count that drawing, telling and merging go by; of a path and of a polystar it is one of
-// those above.
+// What a shape needs, exactly: the one count that drawing, telling and merging go by; of a path it is the one above.
 pub fn need_of(shape: Shape, list: &[f32]) -> Size
     requires { Fit shape list.now }
     ensures { pair_of result ≡ size_of (shape_commands shape list.now) }
@@ -62,7 +48,6 @@ pub fn need_of(shape: Shape, list: &[f32]) -> Size
             codes: 6,
             numbers: 26,
         },
-        Shape::Polystar(mark, count) => need_of_polystar(mark, count, list),
     }
 }
 
@@ -148,33 +133,6 @@ fn write_ellipse(list: &[f32], codes: &mut [u8], i: usize, numbers: &mut [f32], 
     }
 }
 
-// Writes a polystar at places of buffers that it fits, and gives the places after it.
-fn write_polystar(
-    mark: u32,
-    count: usize,
-    list: &[f32],
-    codes: &mut [u8],
-    i: usize,
-    numbers: &mut [f32],
-    j: usize,
-) -> Size
-    requires fit { Fit (Polystar mark count) list.now }
-    requires list_in_bounds { i + length (codes_of (shape_commands (Polystar mark count) list.now)) ≤ length codes.old }
-    requires list_in_bounds_2 { j + length (numbers_of (shape_commands (Polystar mark count) list.now)) ≤ length numbers.old }
-    ensures codes_value { result.codes ≡ i + length (codes_of (shape_commands (Polystar mark count) list.now)) }
-    ensures numbers_value { result.numbers ≡ j + length (numbers_of (shape_commands (Polystar mark count) list.now)) }
-    ensures codes_after { codes.new ≡ sets codes.old i (codes_of (shape_commands (Polystar mark count) list.now)) }
-    ensures numbers_after { numbers.new ≡ sets numbers.old j (numbers_of (shape_commands (Polystar mark count) list.now)) }
-{
-    star_path::write_star(
-        polystar::polystar_of(mark, count, list),
-        codes,
-        i,
-        numbers,
-        j,
-    )
-}
-
 // Writes a shape at places of buffers that it fits, and gives the places after it.
 pub fn write_at(
     shape: Shape,
@@ -198,11 +156,10 @@ pub fn write_at(
         }
         Shape::Rect(radius) => write_rect(radius, list, codes, i, numbers, j),
         Shape::Ellipse => write_ellipse(list, codes, i, numbers, j),
-        Shape::Polystar(mark, count) => { write_polystar(mark, count, list, codes, i, numbers, j) }
     }
 }
 
-// Whether two buffers of these lengths are enough for any path of so many vertices or points, so that this one need not be counted.
+// Whether two buffers of these lengths are enough for any path of so many vertices, so that this one need not be counted.
 // What the other kinds need is told without a look at their numbers.
 fn is_ample(shape: Shape, list: &[f32], codes: usize, numbers: usize) -> bool
     requires { Fit shape list.now }
@@ -212,7 +169,6 @@ fn is_ample(shape: Shape, list: &[f32], codes: usize, numbers: usize) -> bool
         Shape::Path(_, count) => (count + 2 <= codes) & (6 * count + 2 <= numbers),
         Shape::Rect(_) => false,
         Shape::Ellipse => false,
-        Shape::Polystar(_, count) => (count + 2 <= codes) & (6 * count + 2 <= numbers),
     }
 }
 

@@ -1,7 +1,7 @@
 -- What each way out of a function of this crate owes, as the code meets it: a premise for each test and for each call's result.
 -- Assumes nothing.
 use mathlib.Core.Path.{◌≡◌, ap, ◌∙◌, subst⁻¹}
-use Prim.Native.Nat.{ℕ, ◌+◌, ◌-◌, ◌*◌, ◌/◌, ◌%◌, ◌^◌, ◌<◌, ◌≤◌, zero-le}
+use Prim.Native.Nat.{ℕ, ◌+◌, ◌-◌, ◌^◌, ◌<◌, ◌≤◌}
 use native.Mathlib.Omega.{arith}
 use lib.ListN.{get_or, take, drop}
 use lib.Seq.{get_or-take, get_or-drop}
@@ -48,40 +48,9 @@ size_bound k v e h =
 pub row_entry : (i n k : ℕ) → k < n → get_or (take n (drop i sines)) k 0 ≡ entry (i + k)
 row_entry i n k h = get_or-take n (drop i sines) k 0 h ∙ get_or-drop i sines k 0
 
--- ---- entry_at: the entry at a place within its part of 80, the first, another or the last
-pub entry_first : (k v : ℕ) → v ≡ entry (k % 80) → k / 80 ≡ 0 → v ≡ entry k
-entry_first k v e h =
-    let s : k % 80 ≡ k = omega arith in
-    e ∙ ap entry s
-
-pub entry_within : (i j k v : ℕ) → v ≡ entry (i + k % 80) → k / 80 ≡ j → i ≡ 80 * j → v ≡ entry k
-entry_within i j k v e h is =
-    let s : i + k % 80 ≡ k = omega arith in
-    e ∙ ap entry s
-
 pub entry_from : (i k v : ℕ) → v ≡ entry (i + (k - i)) → i ≤ k → v ≡ entry k
 entry_from i k v e h =
     let s : i + (k - i) ≡ k = omega arith in
     e ∙ ap entry s
 
--- ---- entry_at: a place in none of the parts before the last
-past_4 : (n d : ℕ) → n ≤ d → (d ≡ n → ⊥) → (d ≡ n + 1 → ⊥) → (d ≡ n + 2 → ⊥) → (d ≡ n + 3 → ⊥) → n + 4 ≤ d
-past_4 n d h a0 a1 a2 a3 = omega arith
-
-after_16 : (k : ℕ) → 16 ≤ k / 80 → (k / 80 ≡ 16 → ⊥) → 1360 ≤ k
-after_16 k h a = omega arith
-
-pub entry_past : (k : ℕ)
-    → (k / 80 ≡ 0 → ⊥) → (k / 80 ≡ 1 → ⊥) → (k / 80 ≡ 2 → ⊥) → (k / 80 ≡ 3 → ⊥)
-    → (k / 80 ≡ 4 → ⊥) → (k / 80 ≡ 5 → ⊥) → (k / 80 ≡ 6 → ⊥) → (k / 80 ≡ 7 → ⊥)
-    → (k / 80 ≡ 8 → ⊥) → (k / 80 ≡ 9 → ⊥) → (k / 80 ≡ 10 → ⊥) → (k / 80 ≡ 11 → ⊥)
-    → (k / 80 ≡ 12 → ⊥) → (k / 80 ≡ 13 → ⊥) → (k / 80 ≡ 14 → ⊥) → (k / 80 ≡ 15 → ⊥)
-    → (k / 80 ≡ 16 → ⊥) → 1360 ≤ k
-entry_past k a0 a1 a2 a3 a4 a5 a6 a7 a8 a9 a10 a11 a12 a13 a14 a15 a16 =
-    let d = k / 80 in
-    after_16 k (past_4 12 d (past_4 8 d (past_4 4 d (past_4 0 d zero-le a0 a1 a2 a3) a4 a5 a6 a7) a8 a9 a10 a11) a12 a13 a14 a15) a16
-
-pub last_place : (k : ℕ) → k ≤ 1440 → k - 1360 < 81
-last_place k h = omega arith
-
-pub ruleset ways = (fold_1, fold_2, fold_3, fold_4, on_1, on_2, size_value, size_bound, entry_first, entry_within, entry_from, entry_past, last_place)
+pub ruleset ways = (fold_1, fold_2, fold_3, fold_4, on_1, on_2, size_value, size_bound, entry_from)

@@ -1,6 +1,6 @@
 -- `draw::shape_of` meets its contract. Assumes nothing.
-use borrow.Author.Rules.{rules}
 use Rattle.draw.proofs.Ways.{kinds}
+use borrow.Author.Rules.{rules}
 use Rattle.draw.proofs.shape_of.Statement.{statement}
 use Rattle.draw.proofs.shape_of.Tie as tie
 
@@ -43,14 +43,8 @@ returns-2 c = search (rules, kinds)
 returns-3 : tie.Need-returns-3
 returns-3 c = search (rules, kinds)
 
-polystar-shape-requires : tie.Need-polystar-shape-requires
-polystar-shape-requires c κs = search (rules, kinds)
-
 returns-4 : tie.Need-returns-4
 returns-4 c = search (rules, kinds)
-
-returns-5 : tie.Need-returns-5
-returns-5 c = search (rules, kinds)
 
 pub shape-of-spec : {M : Type 1} → statement M
 shape-of-spec =
@@ -69,6 +63,4 @@ shape-of-spec =
     corner-radius-requires
     returns-2
     returns-3
-    polystar-shape-requires
-    returns-4
-    returns-5)
+    returns-4)

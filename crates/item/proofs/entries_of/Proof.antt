@@ -1,6 +1,6 @@
 -- `item::entries_of` meets its contract. Assumes nothing.
-use borrow.Author.Rules.{rules}
 use Rattle.item.proofs.Ways.{entries}
+use borrow.Author.Rules.{rules}
 use Rattle.item.proofs.entries_of.Statement.{statement}
 use Rattle.item.proofs.entries_of.Tie as tie
 
@@ -19,8 +19,5 @@ returns-3 c = search (rules, entries)
 returns-4 : tie.Need-returns-4
 returns-4 c = search (rules, entries)
 
-returns-5 : tie.Need-returns-5
-returns-5 c = search (rules, entries)
-
 pub entries-of-spec : {M : Type 1} → statement M
-entries-of-spec = tie.close (tie.spec mul-result returns returns-2 returns-3 returns-4 returns-5)
+entries-of-spec = tie.close (tie.spec mul-result returns returns-2 returns-3 returns-4)

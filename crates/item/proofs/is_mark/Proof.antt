@@ -1,11 +1,8 @@
 -- `item::is_mark` meets its contract. Assumes nothing.
-use borrow.Author.Rules.{rules}
 use Rattle.item.proofs.Ways.{marks}
+use borrow.Author.Rules.{rules}
 use Rattle.item.proofs.is_mark.Statement.{statement}
 use Rattle.item.proofs.is_mark.Tie as tie
-
-is-polystar-mark-requires : tie.Need-is-polystar-mark-requires
-is-polystar-mark-requires c κs = search rules
 
 returns : tie.Need-returns
 returns c = search (rules, marks)
@@ -16,8 +13,5 @@ returns-2 c = search (rules, marks)
 returns-3 : tie.Need-returns-3
 returns-3 c = search (rules, marks)
 
-returns-4 : tie.Need-returns-4
-returns-4 c = search (rules, marks)
-
 pub is-mark-spec : {M : Type 1} → statement M
-is-mark-spec = tie.close (tie.spec is-polystar-mark-requires returns returns-2 returns-3 returns-4)
+is-mark-spec = tie.close (tie.spec returns returns-2 returns-3)

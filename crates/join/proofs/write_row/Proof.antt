@@ -9,7 +9,7 @@ is-source-requires : tie.Need-is-source-requires
 is-source-requires c κs = search rules
 
 shape-of-requires : tie.Need-shape-of-requires
-shape-of-requires c κs = ((search (rules, row_writes), search (rules, row_writes), search (rules, row_writes)), search (rules, row_writes))
+shape-of-requires c κs = (search (rules, row_writes), search (rules, row_writes), search (rules, row_writes))
 
 enum_told : tie.Need-enum-told
 enum_told c = search rules

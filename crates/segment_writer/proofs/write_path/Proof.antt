@@ -1,8 +1,6 @@
 -- `segment_writer::write_path` meets its contract. Assumes nothing.
-use Rattle.segment_writer.proofs.Parts.{lefts, closeds, back_codes_room, closed_codes_are, back_numbers_room, closed_numbers_place, closed_numbers_are}
-use Rattle.segment_writer.proofs.Ways.{points, is_several, each_vertex, joined, begins, unclosed_paths}
+use Rattle.segment_writer.proofs.Ways.{points, lefts, closeds, closed_fits, back_codes_room, back_numbers_room}
 use borrow.Author.Rules.{rules}
-use Rattle.path.specs.Path.{path_commands}
 use Rattle.segment_writer.proofs.write_path.Statement.{statement}
 use Rattle.segment_writer.proofs.write_path.Tie as tie
 
@@ -25,13 +23,7 @@ returns : tie.Need-returns
 returns c = (search (rules, points), (search (rules, points), (search (rules, points), search (rules, points))))
 
 write-open-requires : tie.Need-write-open-requires
-write-open-requires c κs =
-    let several = c.before.before in
-    let start = several.before.before.before.before.before in
-    let A = start.args in
-    let P = start.requires in
-    let is = begins A.closed A.vertices.now A.count P.0 several.if1.false in
-    (search rules, (search (rules, is_several), (search rules, (search (rules, lefts), search (rules, lefts)))))
+write-open-requires c κs = (search rules, (search (rules, lefts), (search rules, (search (rules, lefts), search (rules, lefts)))))
 
 add-next : tie.Need-overflow-add-next
 add-next c = search rules
@@ -40,34 +32,29 @@ write-back-requires : tie.Need-write-back-requires
 write-back-requires c κs =
     let decided = c.before.before in
     let opened = decided.before.before.before.before.before in
-    let several = opened.before.before.before in
-    let read = several.before in
-    let start = read.before.before.before.before in
+    let begun = opened.before.before.before.before in
+    let start = begun.before.before.before.before in
     let A = start.args in
     let P = start.requires in
     let E = opened.write-open.ensures in
     let v = A.vertices.now in
-    let left = path_commands 0 v A.count in
-    let each = each_vertex A.closed v A.count P.0 several.if1.false in
-    let is = joined A.closed v A.count P.0 several.if1.false decided.if2.true _ _ E.0 read.vertex-at.ensures in (
-      back_codes_room _ left _ _ _ _ A.codes.now P.1.0 _ E.1.1.0 is each,
-      back_numbers_room _ left _ _ _ _ E.1.0 A.numbers.now _ E.1.1.1 P.1.1 is,
+    let more = opened.before.before.before.if1.false in
+    let shut = decided.if2.true in
+    let first_is = begun.vertex-at.ensures in (
+      back_codes_room A.closed v A.count P.0 more A.i A.codes.now shut _ E.1.1.0 P.1.0,
+      back_numbers_room A.closed v A.count P.0 more A.j A.numbers.now shut _ _ E.0 first_is _ E.1.0 _ E.1.1.1
+          P.1.1,
     )
 
 add-t27 : tie.Need-overflow-add-t27
 add-t27 c =
     let decided = c.before.before.before.before.before.before.before in
-    let opened = decided.before.before.before.before.before in
-    let several = opened.before.before.before in
-    let read = several.before in
-    let start = read.before.before.before.before in
+    let several = decided.before.before.before.before.before.before.before.before in
+    let start = several.before.before.before.before.before in
     let A = start.args in
     let P = start.requires in
-    let E = opened.write-open.ensures in
-    let v = A.vertices.now in
-    let each = each_vertex A.closed v A.count P.0 several.if1.false in
-    let is = joined A.closed v A.count P.0 several.if1.false decided.if2.true _ _ E.0 read.vertex-at.ensures in
-    search (rules, closeds)
+    closed_fits A.closed A.vertices.now A.count P.0 several.if1.false A.i A.codes.now decided.if2.true P.1.0
+    (search rules)
 
 same-length-3 : tie.Need-same-length-3
 same-length-3 c = search rules
@@ -76,30 +63,7 @@ same-length-4 : tie.Need-same-length-4
 same-length-4 c = search rules
 
 returns-2 : tie.Need-returns-2
-returns-2 c =
-    let written = c.before.before.before.before in
-    let decided = written.before.before.before in
-    let opened = decided.before.before.before.before.before in
-    let several = opened.before.before.before in
-    let read = several.before in
-    let start = read.before.before.before.before in
-    let A = start.args in
-    let P = start.requires in
-    let E = opened.write-open.ensures in
-    let B = written.write-back.ensures in
-    let v = A.vertices.now in
-    let left = path_commands 0 v A.count in
-    let each = each_vertex A.closed v A.count P.0 several.if1.false in
-    let is = joined A.closed v A.count P.0 several.if1.false decided.if2.true _ _ E.0 read.vertex-at.ensures in (
-      search (rules, closeds),
-      (
-        closed_numbers_place _ left _ _ _ _ E.1.0 _ B.0 is,
-        (
-          closed_codes_are _ left _ _ _ _ _ _ _ E.1.1.0 B.1.0 is each,
-          closed_numbers_are _ left _ _ _ _ E.1.0 _ _ E.1.1.1 _ B.1.1 is,
-        ),
-      ),
-    )
+returns-2 c = (search (rules, closeds), (search (rules, closeds), (search (rules, closeds), search (rules, closeds))))
 
 same-length-5 : tie.Need-same-length-5
 same-length-5 c = search rules
@@ -108,7 +72,7 @@ same-length-6 : tie.Need-same-length-6
 same-length-6 c = search rules
 
 returns-3 : tie.Need-returns-3
-returns-3 c = (search (rules, unclosed_paths), (search (rules, unclosed_paths), (search (rules, unclosed_paths), search (rules, unclosed_paths))))
+returns-3 c = (search (rules, lefts), (search (rules, lefts), (search (rules, lefts), search (rules, lefts))))
 
 pub write-path-spec : {M : Type 1} → statement M
 write-path-spec =

@@ -2,7 +2,7 @@
 use borrow.Author.Rules.{rules}
 use mathlib.Core.Path.{sym}
 use mathlib.Core.Bool.{true≢false}
-use Rattle.shape.proofs.Ways.{path_ample, polystar_ample, amples}
+use Rattle.shape.proofs.Ways.{path_ample, amples}
 use Rattle.shape.proofs.is_ample.Statement.{statement}
 use Rattle.shape.proofs.is_ample.Tie as tie
 
@@ -24,18 +24,6 @@ enum_told c = search rules
 enum-told-2 : tie.Need-enum-told-2
 enum-told-2 c = search rules
 
-enum-known-shape-2 : tie.Need-enum-known-shape-2
-enum-known-shape-2 c = search rules
-
-add-result-3 : tie.Need-overflow-add-result-3
-add-result-3 c = search (rules, amples)
-
-mul-result-2 : tie.Need-overflow-mul-result-2
-mul-result-2 c = search (rules, amples)
-
-add-result-4 : tie.Need-overflow-add-result-4
-add-result-4 c = search (rules, amples)
-
 returns : tie.Need-returns
 returns c = λ e. search (rules, path_ample)
 
@@ -44,9 +32,6 @@ returns-2 c = λ e. absurd (true≢false (sym e))
 
 returns-3 : tie.Need-returns-3
 returns-3 c = λ e. absurd (true≢false (sym e))
-
-returns-4 : tie.Need-returns-4
-returns-4 c = λ e. search (rules, polystar_ample)
 
 pub is-ample-spec : {M : Type 1} → statement M
 is-ample-spec =
@@ -58,11 +43,6 @@ is-ample-spec =
     add-result-2
     enum_told
     enum-told-2
-    enum-known-shape-2
-    add-result-3
-    mul-result-2
-    add-result-4
     returns
     returns-2
-    returns-3
-    returns-4)
+    returns-3)

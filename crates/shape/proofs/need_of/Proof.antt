@@ -22,12 +22,6 @@ rect-numbers-requires c κs = search rules
 enum_told : tie.Need-enum-told
 enum_told c = search rules
 
-enum-known-shape-3 : tie.Need-enum-known-shape-3
-enum-known-shape-3 c = search rules
-
-need-of-polystar-requires : tie.Need-need-of-polystar-requires
-need-of-polystar-requires c κs = search (rules, arms)
-
 returns : tie.Need-returns
 returns c = search (rules, arms)
 
@@ -36,9 +30,6 @@ returns-2 c = search (rules, arms)
 
 returns-3 : tie.Need-returns-3
 returns-3 c = search (rules, arms)
-
-returns-4 : tie.Need-returns-4
-returns-4 c = search (rules, arms)
 
 pub need-of-spec : {M : Type 1} → statement M
 need-of-spec =
@@ -50,9 +41,6 @@ need-of-spec =
     rect-count-requires
     rect-numbers-requires
     enum_told
-    enum-known-shape-3
-    need-of-polystar-requires
     returns
     returns-2
-    returns-3
-    returns-4)
+    returns-3)

@@ -1,6 +1,6 @@
 -- `shape::write_at` meets its contract. Assumes nothing.
-use borrow.Author.Rules.{rules}
 use Rattle.shape.proofs.Ways.{arms}
+use borrow.Author.Rules.{rules}
 use Rattle.shape.specs.Shape.{shape_commands}
 use Rattle.shape.proofs.write_at.Statement.{statement}
 use Rattle.shape.proofs.write_at.Tie as tie
@@ -22,12 +22,6 @@ enum_told c = search rules
 
 write-ellipse-requires : tie.Need-write-ellipse-requires
 write-ellipse-requires c κs = search (rules, arms)
-
-enum-known-shape-3 : tie.Need-enum-known-shape-3
-enum-known-shape-3 c = search rules
-
-write-polystar-requires : tie.Need-write-polystar-requires
-write-polystar-requires c κs = search (rules, arms)
 
 same_length : tie.Need-same-length
 same_length c = search rules
@@ -57,15 +51,6 @@ same-length-6 c = search rules
 returns-3 : tie.Need-returns-3
 returns-3 c = (search (rules, arms), (search (rules, arms), (search (rules, arms), search (rules, arms))))
 
-same-length-7 : tie.Need-same-length-7
-same-length-7 c = search rules
-
-same-length-8 : tie.Need-same-length-8
-same-length-8 c = search rules
-
-returns-4 : tie.Need-returns-4
-returns-4 c = (search (rules, arms), (search (rules, arms), (search (rules, arms), search (rules, arms))))
-
 pub write-at-spec : {M : Type 1} → statement M
 write-at-spec =
     tie.close
@@ -76,8 +61,6 @@ write-at-spec =
     write-rect-requires
     enum_told
     write-ellipse-requires
-    enum-known-shape-3
-    write-polystar-requires
     same_length
     same-length-2
     returns
@@ -86,7 +69,4 @@ write-at-spec =
     returns-2
     same-length-5
     same-length-6
-    returns-3
-    same-length-7
-    same-length-8
-    returns-4)
+    returns-3)

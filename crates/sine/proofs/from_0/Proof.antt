@@ -15,7 +15,7 @@ array-read-result c = search rules
 
 returns : tie.Need-returns
 unfolding sines
-returns c = row_entry 0 80 c.args.k c.requires ∙ ap entry (zero-add c.args.k)
+returns c = row_entry 0 160 c.args.k c.requires ∙ ap entry (zero-add c.args.k)
 
 pub from-0-spec : {M : Type 1} → statement M
 from-0-spec = tie.close (tie.spec mul-result array-read-result returns)

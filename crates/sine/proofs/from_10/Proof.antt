@@ -13,7 +13,7 @@ array-read-result c = search rules
 
 returns : tie.Need-returns
 unfolding sines
-returns c = row_entry 160 80 c.args.k c.requires
+returns c = row_entry 160 160 c.args.k c.requires
 
 pub from-10-spec : {M : Type 1} → statement M
 from-10-spec = tie.close (tie.spec mul-result array-read-result returns)

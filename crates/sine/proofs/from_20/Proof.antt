@@ -13,7 +13,7 @@ array-read-result c = search rules
 
 returns : tie.Need-returns
 unfolding sines
-returns c = row_entry 320 80 c.args.k c.requires
+returns c = row_entry 320 160 c.args.k c.requires
 
 pub from-20-spec : {M : Type 1} → statement M
 from-20-spec = tie.close (tie.spec mul-result array-read-result returns)

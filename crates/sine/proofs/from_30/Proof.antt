@@ -13,7 +13,7 @@ array-read-result c = search rules
 
 returns : tie.Need-returns
 unfolding sines
-returns c = row_entry 480 80 c.args.k c.requires
+returns c = row_entry 480 160 c.args.k c.requires
 
 pub from-30-spec : {M : Type 1} → statement M
 from-30-spec = tie.close (tie.spec mul-result array-read-result returns)

@@ -1,4 +1,0 @@
--- What the proofs of `polystar` cite.
-pub mod Turns
-pub mod Ways
-pub mod Single

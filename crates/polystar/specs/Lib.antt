@@ -1,3 +1,0 @@
--- Polystars: which numbers make one, and its points.
-pub mod Polystar
-pub mod Points

@@ -1,2 +1,0 @@
--- What the proofs of `star_path` cite.
-pub mod Ways

@@ -1,2 +1,0 @@
--- A word of writing's own way.
-pub mod Left
