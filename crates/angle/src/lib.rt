@@ -1,4 +1,6 @@
 // An angle: degrees as a whole number of sixteenths of a degree, and the cosine and the sine of such a number.
+#![tactic(auto)]
+
 ghost use Rattle.std.specs.Prelude.{◌≡◌, ◌^◌, ◌<◌, ◌≤◌, true};
 ghost use Rattle.ieee.specs.Literal.{number_limit};
 ghost use Rattle.ieee.specs.Limit.{within};
@@ -8,7 +10,7 @@ ghost use Rattle.angle.specs.Sixteenths.{sixteenths_in, turn_of};
 ghost use Rattle.angle.specs.Direction.{direction_of};
 
 // The cosine and the sine of an angle.
-#[derive(Drop)]
+#[derive(Clone, Copy)]
 pub struct Direction {
     pub cosine: f32,
     pub sine: f32,

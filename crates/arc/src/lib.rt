@@ -1,5 +1,7 @@
 // The length of a curve by chords, as `curve` has it, the quick way: the points go into two arrays, and the chords between
 // them are measured together.
+#![tactic(auto)]
+
 ghost use Rattle.std.specs.Prelude.{◌≡◌, true, ◌^◌, ◌≤◌, ◌<◌};
 ghost use Rattle.curve.specs.Curve as spec;
 ghost use Rattle.curve.proofs.Rising.{Inside};

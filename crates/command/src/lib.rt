@@ -1,4 +1,6 @@
 // Path commands, the refusals of a call, and one command written to the two buffers of a path.
+#![tactic(auto)]
+
 ghost use Rattle.std.specs.Prelude.{◌≡◌, [], ◌∷◌, ◌+◌, ◌≤◌, length};
 ghost use Rattle.std.proofs.lemmas.List.Edits.{sets};
 ghost use Rattle.command.specs.Commands.{code_of, coordinates_of};
@@ -6,7 +8,7 @@ ghost use Rattle.command.specs.Refusals.{refusal_number};
 ghost use Rattle.command.specs.Outcomes.{Counted, counts_of, counts_number};
 
 // A path command, with its coordinates.
-#[derive(Drop)]
+#[derive(Clone, Copy)]
 pub enum PathCommand {
     Move(f32, f32),
     Line(f32, f32),
@@ -16,7 +18,7 @@ pub enum PathCommand {
 }
 
 // Why a call gives no answer.
-#[derive(Drop)]
+#[derive(Clone, Copy)]
 pub enum Refusal {
     Empty,
     TooMany,
@@ -34,21 +36,21 @@ pub enum Refusal {
 
 // Two counts that a call tells, or why it tells none: the codes and numbers that a drawing needs or has
 // written, or where a command's numbers start and how many they are.
-#[derive(Drop)]
+#[derive(Clone, Copy)]
 pub enum Counts {
     Refused(Refusal),
     Of(usize, usize),
 }
 
 // So many codes and so many numbers: what a shape needs of two buffers, or how much of both is filled.
-#[derive(Drop)]
+#[derive(Clone, Copy)]
 pub struct Size {
     pub codes: usize,
     pub numbers: usize,
 }
 
 // What checks alone come to: the first refusal, or that all of them pass.
-#[derive(Drop)]
+#[derive(Clone, Copy)]
 pub enum Verdict {
     Refused(Refusal),
     Passed,

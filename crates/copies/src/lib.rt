@@ -1,4 +1,6 @@
 // A repeater answered: the order of its copies, and the numbers of one of them.
+#![tactic(auto)]
+
 ghost use Rattle.std.specs.Prelude.{◌≡◌, not, [], ◌∷◌, ◌≤◌, length};
 ghost use Rattle.std.proofs.lemmas.List.Edits.{sets};
 ghost use Rattle.ieee.specs.Limit.{all_within};
@@ -43,7 +45,7 @@ pub fn repeater_of(numbers: &[f32], mode: u8) -> RepeaterStyle
 }
 
 // How a call that fills a buffer ends: a refusal, or how many entries were written.
-#[derive(Drop)]
+#[derive(Clone, Copy)]
 pub enum Written {
     Refused(Refusal),
     Count(usize),

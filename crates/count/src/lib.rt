@@ -1,4 +1,6 @@
 // A float as a count.
+#![tactic(auto)]
+
 ghost use Rattle.std.specs.Prelude.{◌≡◌, true, ◌^◌, ◌≤◌};
 ghost use Rattle.ieee.specs.Limit.{within};
 ghost use Rattle.count.specs.Count.{count_down, count_up, count_limit};

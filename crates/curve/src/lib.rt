@@ -1,5 +1,7 @@
 // The length of a curve by chords: `approx_quad_length` and `approx_cubic_length` of
 // drawing_paths.rs.
+#![tactic(auto)]
+
 ghost use Rattle.std.specs.Prelude.{◌≡◌};
 ghost use Rattle.curve.specs.Curve as spec;
 

@@ -1,4 +1,6 @@
 // A trim answered: its visible ranges, and the lengths at which they cut a path.
+#![tactic(auto)]
+
 ghost use Rattle.std.specs.Prelude.{◌≡◌, ◌+◌, ◌≤◌, length};
 ghost use Rattle.std.proofs.lemmas.List.Edits.{sets};
 ghost use Rattle.command.specs.Outcomes.{and_then};
@@ -17,7 +19,7 @@ use trim::{Ranges, TrimStyle};
 const EPSILON: f32 = 0.00000011920929;
 
 // What lies before, in and after a range.
-#[derive(Drop)]
+#[derive(Clone, Copy)]
 pub struct Cuts {
     pub before: f32,
     pub visible: f32,
@@ -25,14 +27,14 @@ pub struct Cuts {
 }
 
 // The ranges of a trim, or why it is refused.
-#[derive(Drop)]
+#[derive(Clone, Copy)]
 pub enum Shown {
     Refused(Refusal),
     Visible(Ranges),
 }
 
 // The length of a path and the ranges of its trim, or a refusal.
-#[derive(Drop)]
+#[derive(Clone, Copy)]
 pub enum Trimmed {
     Refused(Refusal),
     Cut(f32, Ranges),

@@ -1,4 +1,6 @@
 // The calls that draw a vertex list or one item row: the checks in document 01's order, then the writing.
+#![tactic(auto)]
+
 ghost use Rattle.std.specs.Prelude.{◌≡◌, ◌+◌, ◌≤◌, length, drop, false};
 ghost use Rattle.command.specs.Outcomes.{accepted, checked, counts_number, first_count, second_count};
 ghost use Rattle.command.specs.Verdicts.{verdict_of};
@@ -13,7 +15,7 @@ use item::ItemRow;
 use shape::Shape;
 
 // What the making of a row's shape comes to: a refusal, or a shape and the place where its numbers start.
-#[derive(Drop)]
+#[derive(Clone, Copy)]
 pub enum Checked {
     Fault(Refusal),
     Sound(usize, Shape),

@@ -1,4 +1,6 @@
 // An ellipse as path commands, a command at a time: request U1 of document 02.
+#![tactic(auto)]
+
 ghost use Rattle.std.specs.Prelude.{◌≡◌, get_or};
 ghost use Rattle.command.specs.declared.PathCommand.TheVariants.{Close};
 ghost use Rattle.ellipse.specs.Ellipse.{tangent_on, ellipse_in};

@@ -1,4 +1,6 @@
 // An f32 taken apart and written by its bit pattern, without its sign, and chosen between others.
+#![tactic(auto)]
+
 ghost use Rattle.std.specs.Prelude.{◌≡◌, ◌^◌, ◌≤◌, ◌<◌};
 ghost use Rattle.std.specs.Float.Ieee as Ieee;
 ghost use Rattle.std.specs.Float.{binary32};
@@ -14,7 +16,7 @@ ghost use Rattle.float.specs.Parts.{PartsOf};
 const INFINITY: u64 = 0x7f80_0000;
 
 // A float as `digits` * 2^`drops` of the smallest one, 2^-149, with a sign, where it is finite.
-#[derive(Drop)]
+#[derive(Clone, Copy)]
 pub struct Parts {
     pub finite: bool,
     pub negative: bool,

@@ -1,4 +1,6 @@
 // IEEE 754's fusedMultiplyAdd at binary32: a * b + c, rounded once.
+#![tactic(auto)]
+
 ghost use Rattle.std.specs.Prelude.{◌≡◌, ◌-◌, ◌*◌, ◌^◌, ◌≤◌, ◌<◌};
 ghost use Rattle.std.specs.Float.Ieee as Ieee;
 ghost use Rattle.std.specs.Float.{binary32};
@@ -37,7 +39,7 @@ fn rounded(m: u64, s: u64) -> u64
 }
 
 // m * 2^e.
-#[derive(Drop)]
+#[derive(Clone, Copy)]
 struct Num {
     m: u64,
     e: u64,

@@ -1,8 +1,10 @@
 // One row of an item list, and the rules for a row by itself.
+#![tactic(auto)]
+
 ghost use Rattle.std.specs.Prelude.{◌≡◌, ◌+◌, ◌*◌, ◌≤◌, length};
 ghost use Rattle.item.specs.Rows.{item_row, is_mark, is_listed, entries_of};
 
-#[derive(Drop)]
+#[derive(Clone, Copy)]
 pub struct ItemRow {
     pub kind: u32,
     pub hidden: u32,

@@ -1,4 +1,6 @@
 // The functions that C calls: include/jengafir.h declares them. Each hands its numbers on.
+#![tactic(auto)]
+
 ghost use Rattle.std.specs.Prelude.{◌≡◌, length};
 ghost use Rattle.std.specs.Float.{binary32};
 ghost use Rattle.ieee.specs.Literal.{turn32};

@@ -1,4 +1,6 @@
 // The sources of a merge drawn one after another: judged and counted whole, then written.
+#![tactic(auto)]
+
 ghost use Rattle.std.specs.Prelude.{◌≡◌, true, ◌+◌, ◌*◌, ◌≤◌, length};
 ghost use Rattle.std.proofs.lemmas.List.Edits.{sets};
 ghost use Rattle.command.specs.Commands.{codes_of, numbers_of};

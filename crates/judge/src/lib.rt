@@ -1,4 +1,6 @@
 // A lent command list judged in document 01's order of checks, and the numbers of one of its commands.
+#![tactic(auto)]
+
 ghost use Rattle.std.specs.Prelude.{◌≡◌, ◌≤◌, length};
 ghost use Rattle.command.specs.Outcomes.{counts_of};
 ghost use Rattle.judge.specs.Lists.{judge_list, judged_of, without_commands, place_of, judge_command, find_command, command_fault, command_part};
@@ -7,7 +9,7 @@ use command::{Counts, Refusal};
 use reader::Read;
 
 // What judging a command list finds: the first refusal, or none.
-#[derive(Drop)]
+#[derive(Clone, Copy)]
 pub enum Judged {
     Fault(Refusal),
     Sound,

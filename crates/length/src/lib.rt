@@ -1,4 +1,6 @@
 // The length of a lent command list, and how far the list goes up to a length.
+#![tactic(auto)]
+
 ghost use Rattle.std.specs.Prelude.{◌≡◌};
 ghost use Rattle.measure.specs.Length.{start_pen};
 ghost use Rattle.length.specs.Lists.{measure_list, measured_of};
@@ -9,14 +11,14 @@ use measure::Pen;
 use reader::Read;
 
 // What measuring a command list answers.
-#[derive(Drop)]
+#[derive(Clone, Copy)]
 pub enum Measured {
     Refused(Refusal),
     Length(f32),
 }
 
 // How far a list is read: to its end, or to the first command by which it is so long.
-#[derive(Drop)]
+#[derive(Clone, Copy)]
 pub enum Until {
     End,
     Length(f32),
@@ -24,7 +26,7 @@ pub enum Until {
 
 // How far a walk came: why it was refused, or whether it stopped before the end, after how many commands, and how long
 // they are.
-#[derive(Drop)]
+#[derive(Clone, Copy)]
 pub enum Walked {
     Refused(Refusal),
     To(bool, usize, f32),

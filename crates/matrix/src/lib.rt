@@ -1,4 +1,6 @@
 // Matrices that send a point to a point, and their products: each product and sum is rounded, left to right.
+#![tactic(auto)]
+
 ghost use Rattle.std.specs.Prelude.{◌≡◌, true};
 ghost use Rattle.ieee.specs.Literal.{number_limit};
 ghost use Rattle.ieee.specs.Limit.{within};
@@ -7,7 +9,7 @@ ghost use Rattle.matrix.specs.Matrix as spec;
 use angle::Direction;
 
 // Sends (p, q) to (a·p + c·q + e, b·p + d·q + f).
-#[derive(Drop)]
+#[derive(Clone, Copy)]
 pub struct Matrix {
     pub a: f32,
     pub b: f32,

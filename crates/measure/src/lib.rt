@@ -1,4 +1,6 @@
 // The length of a path, a command at a time: `approx_path_length` of drawing_paths.rs.
+#![tactic(auto)]
+
 ghost use Rattle.std.specs.Prelude.{◌≡◌};
 ghost use Rattle.measure.specs.Length as spec;
 
@@ -6,7 +8,7 @@ use command::PathCommand;
 use point::Point;
 
 // A point, or none.
-#[derive(Drop)]
+#[derive(Clone, Copy)]
 pub enum Place {
     Nowhere,
     At(Point),
@@ -14,7 +16,7 @@ pub enum Place {
 
 // What is known after some commands: the length so far, the last point, and where the contour
 // started.
-#[derive(Drop)]
+#[derive(Clone, Copy)]
 pub struct Pen {
     pub length: f32,
     pub point: Place,

@@ -1,4 +1,6 @@
 // Which rows a merge joins, settled on the rows alone.
+#![tactic(auto)]
+
 ghost use Rattle.std.specs.Prelude.{◌≡◌, true, ◌+◌, ◌-◌, ◌*◌, ◌≤◌, ◌<◌, length};
 ghost use Rattle.item.specs.Rows.{item_row};
 ghost use Rattle.nest.specs.Lists.{rows_from};
@@ -9,14 +11,14 @@ use command::Refusal;
 use item::ItemRow;
 
 // Where the merge row is, with the number of sources before it; or no such row with only rows before it that may be there.
-#[derive(Drop)]
+#[derive(Clone, Copy)]
 pub enum Scan {
     Nowhere,
     At(usize, usize),
 }
 
 // A refusal, or the merge row: the sources before it are joined.
-#[derive(Drop)]
+#[derive(Clone, Copy)]
 pub enum Decision {
     Refused(Refusal),
     Joined(usize),

@@ -1,4 +1,6 @@
 // What a drawing needs of two buffers, told without drawing it: exactly the codes and numbers that it writes.
+#![tactic(auto)]
+
 ghost use Rattle.std.specs.Prelude.{◌≡◌};
 ghost use Rattle.command.specs.Outcomes.{counts_of};
 ghost use Rattle.command.specs.Buffers.{need_of};

@@ -1,4 +1,6 @@
 // Rows read as nested items: the rules for a list of rows, and which groups are empty.
+#![tactic(auto)]
+
 ghost use Rattle.std.specs.Prelude.{◌≡◌, true, ◌+◌, ◌-◌, ◌*◌, ◌≤◌, ◌<◌, length};
 ghost use Rattle.item.specs.Rows.{item_row, is_listed};
 ghost use Rattle.nest.specs.Lists.{rows_from, each_row, is_shallow, deepest_after, is_nested};

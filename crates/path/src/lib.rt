@@ -1,11 +1,13 @@
 // A vertex list as path commands: its vertices, and the segment between two, as in `build_bezier_path` of drawing_paths.rs.
+#![tactic(auto)]
+
 ghost use Rattle.std.specs.Prelude.{◌≡◌, cond, ◌&&◌, ◌+◌, ◌*◌, ◌^◌, ◌<◌, ◌≤◌, length};
 ghost use Rattle.path.specs.Path.{vertex_at, approx_eq, is_line, bezier_segment, bezier_count};
 
 use command::PathCommand;
 
 // A vertex with its in-tangent and its out-tangent, both relative to it.
-#[derive(Drop)]
+#[derive(Clone, Copy)]
 pub struct BezierVertex {
     pub x: f32,
     pub y: f32,
@@ -16,7 +18,7 @@ pub struct BezierVertex {
 }
 
 // A vertex that a walk over a path has come to, and the place after the numbers on the way to it.
-#[derive(Drop)]
+#[derive(Clone, Copy)]
 pub struct Reached {
     pub vertex: BezierVertex,
     pub at: usize,

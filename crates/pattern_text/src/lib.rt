@@ -1,5 +1,7 @@
 // The lines of a text and the bit patterns of numbers in them, as the vectors programs read and print them.
 // A line of theirs is a word of at most eight letters and numbers of eight hexadecimal digits, one blank before each.
+#![tactic(auto)]
+
 ghost use Rattle.std.specs.Prelude.{◌<◌, ◌≤◌, length};
 
 use command::{Counts, Refusal};

@@ -1,4 +1,6 @@
 // Draws the path whose text stands on standard input, and prints its commands and its length.
+#![tactic(auto)]
+
 use libc::{STDIN_FILENO, STDOUT_FILENO};
 
 // 17,165 bytes of a text decide the answer, and the buffer has room for more.

@@ -1,4 +1,6 @@
 // The text of a plate, as the program `plate` reads it: checked whole, then turned into vertices.
+#![tactic(auto)]
+
 ghost use Rattle.std.specs.Prelude.{◌≡◌, true, map, ◌+◌, ◌≤◌, length, take, drop};
 ghost use Rattle.std.specs.Float.Ieee.{of_bits};
 ghost use Rattle.std.specs.Float.{binary32};
@@ -10,7 +12,7 @@ ghost use Rattle.plate_read.specs.Fields.{pattern_after, field_pattern, in_form}
 use command::Refusal;
 
 // What a text gives: the first refusal, or the closed flag and how many vertices.
-#[derive(Drop)]
+#[derive(Clone, Copy)]
 pub enum Reading {
     Fault(Refusal),
     Sound(u32, usize),

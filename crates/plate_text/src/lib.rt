@@ -1,4 +1,6 @@
 // The program `plate` as a function: a text is read, its path drawn and measured, and the answer printed.
+#![tactic(auto)]
+
 ghost use Rattle.std.specs.Prelude.{◌≡◌, ◌+◌, ◌*◌, ◌≤◌, length};
 ghost use Rattle.command.specs.Buffers.{onto};
 ghost use Rattle.draw.specs.Paths.{draw_path};

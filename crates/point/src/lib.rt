@@ -1,5 +1,7 @@
 // A point, or any two numbers of which one belongs to each axis: a shift, an anchor, a scale.
-#[derive(Drop)]
+#![tactic(auto)]
+
+#[derive(Clone, Copy)]
 pub struct Point {
     pub x: f32,
     pub y: f32,

@@ -1,4 +1,6 @@
 // The length of a polyline whose points stand in two arrays, by a loop with no branch where no chord is in doubt.
+#![tactic(auto)]
+
 ghost use Rattle.std.specs.Prelude.{◌≡◌, ℕ, ◌+◌, ◌<◌, ◌≤◌, T, length, get_or};
 ghost use Rattle.std.specs.Float.{nan, binary32};
 ghost use Rattle.std.specs.Float.Ieee.Scale.{finite};
@@ -10,7 +12,7 @@ ghost use Rattle.polyline.specs.Polyline.{point_at, FiniteTo, sum_of};
 use point::Point;
 
 // A candidate for a chord's length, and whether it is in doubt: 1 where it is, else 0.
-#[derive(Drop)]
+#[derive(Clone, Copy)]
 struct Chord {
     length: f32,
     doubt: u64,

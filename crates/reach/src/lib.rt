@@ -1,4 +1,6 @@
 // Whether a lent command list is at least so long, told after as few of its commands as tell it.
+#![tactic(auto)]
+
 ghost use Rattle.std.specs.Prelude.{◌≡◌};
 ghost use Rattle.reach.specs.Reach.{is_length, length_reaches, reply_of};
 
@@ -6,7 +8,7 @@ use command::Refusal;
 use length::{Until, Walked};
 
 // What is told: why there is no reply, or yes or no, and how many commands were read for it.
-#[derive(Drop)]
+#[derive(Clone, Copy)]
 pub enum Reply {
     Refused(Refusal),
     Yes(usize),

@@ -1,11 +1,13 @@
 // One command read from a code and the numbers from a place on, judged in document 01's order of checks.
+#![tactic(auto)]
+
 ghost use Rattle.std.specs.Prelude.{◌≡◌, ◌≤◌, length};
 ghost use Rattle.reader.specs.Read.{size_of_code, command_at, read_from, read_of};
 
 use command::{PathCommand, Refusal};
 
 // What reading a command finds: a refusal, or the command and the place after its numbers.
-#[derive(Drop)]
+#[derive(Clone, Copy)]
 pub enum Read {
     Refused(Refusal),
     Command(PathCommand, usize),

@@ -1,5 +1,7 @@
 // A rectangle as path commands: `build_rect_path` and `build_round_rect_path` of drawing_paths.rs,
 // a command at a time.
+#![tactic(auto)]
+
 ghost use Rattle.std.specs.Prelude.{◌≡◌, length, get_or};
 ghost use Rattle.std.specs.Float.Ieee.{le};
 ghost use Rattle.command.specs.declared.PathCommand.TheVariants.{Close};
@@ -11,7 +13,7 @@ ghost use Rattle.rect.specs.Rect.{epsilon, corner_radius, plain_rect, round_rect
 use command::PathCommand;
 
 // The sides of a box.
-#[derive(Drop)]
+#[derive(Clone, Copy)]
 pub struct Bounds {
     pub left: f32,
     pub top: f32,

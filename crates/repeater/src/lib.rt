@@ -1,4 +1,6 @@
 // The copies of a repeater: `repeater_transform_for_copy` of drawing_paths.rs and what it calls.
+#![tactic(auto)]
+
 ghost use Rattle.std.specs.Prelude.{◌≡◌, ◌^◌, ◌≤◌, true};
 ghost use Rattle.ieee.specs.Literal.{number_limit};
 ghost use Rattle.ieee.specs.Limit.{within};
@@ -13,7 +15,7 @@ use point::Point;
 const EPSILON: f32 = 0.00000011920929;
 
 // A repeater, sampled. Scales are in per cent, the rotation is in degrees.
-#[derive(Drop)]
+#[derive(Clone, Copy)]
 pub struct RepeaterStyle {
     pub copies: f32,
     pub offset: f32,

@@ -1,5 +1,7 @@
 // The length of a vector, rounded once: a guess in binary64 and one strict test of it against the two midpoints beside it.
 // Where the test does not pass, as at a tie, a very small or large result, an infinity or a NaN, whole numbers decide.
+#![tactic(auto)]
+
 ghost use Rattle.std.specs.Prelude.{◌≡◌, not, ◌≤◌, T};
 ghost use Rattle.std.specs.Float.{binary32};
 ghost use Rattle.std.specs.Float.Ieee.{is_nan};

@@ -1,5 +1,7 @@
 // Writes the path of a vertex list, a segment at a time. Each vertex is read from the list once: it is the end of a segment, and is
 // carried over as the start of the next one. The first is kept, as the end of the segment that closes the path.
+#![tactic(auto)]
+
 ghost use Rattle.std.specs.Prelude.{◌≡◌, cond, List, [], ◌∷◌, ◌++◌, ◌+◌, ◌-◌, ◌<◌, ◌≤◌, length, set, Float};
 ghost use Rattle.std.proofs.lemmas.List.Edits.{sets};
 ghost use Rattle.command.specs.Commands.{code_of, coordinates_of, codes_of, numbers_of};

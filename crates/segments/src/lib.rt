@@ -2,6 +2,8 @@
 // that a list begins with are passed over, four at a time. From there on each vertex is carried over from segment to segment, as
 // where they are written, and no branch hangs on which of the two a segment is: a list of both kinds is counted as fast as one of
 // lines.
+#![tactic(auto)]
+
 ghost use Rattle.std.specs.Prelude.{◌≡◌, ◌&&◌, ◌+◌, ◌-◌, ◌*◌, ◌<◌, ◌≤◌, length, drop};
 ghost use Rattle.command.specs.Commands.{numbers_of};
 ghost use Rattle.path.specs.Path.{vertex_at, path_commands, Sound};

@@ -1,4 +1,6 @@
 // A drawing of any kind: what it needs of two buffers, and its commands written to them.
+#![tactic(auto)]
+
 ghost use Rattle.std.specs.Prelude.{◌≡◌, true, ◌&&◌, ◌+◌, ◌≤◌, leb, length};
 ghost use Rattle.std.proofs.lemmas.List.Edits.{sets};
 ghost use Rattle.command.specs.Commands.{codes_of, numbers_of};
@@ -11,7 +13,7 @@ use command::{Counts, Refusal, Size};
 use rect::Bounds;
 
 // What is to be drawn, and what decides how much of it there is. Its numbers stand in a list beside it.
-#[derive(Drop)]
+#[derive(Clone, Copy)]
 pub enum Shape {
     // The closed flag, and how many vertices. The list has six numbers a vertex.
     Path(u32, usize),

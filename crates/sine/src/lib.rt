@@ -1,6 +1,8 @@
 // Sines of whole numbers of sixteenths of a degree, times 2^30: the table from 0 to 90 degrees, and the turn from it.
 // The compiler has no constant memory: it writes a constant array to the stack wherever it is used. So the table stands
 // in nine constants of ten degrees each, and who reads an entry writes the 160 around it, and not all 1,441.
+#![tactic(auto)]
+
 ghost use Rattle.std.specs.Prelude.{◌≡◌, ◌+◌, ◌<◌, ◌≤◌, ◌^◌};
 ghost use Rattle.sine.specs.Table.{entry};
 ghost use Rattle.sine.specs.Quadrants.{fold_of, size_of, on_of};

@@ -1,11 +1,13 @@
 // Trim: which part of a path's length is visible, by `normalized_trim_segments` of drawing_paths.rs.
+#![tactic(auto)]
+
 ghost use Rattle.std.specs.Prelude.{◌≡◌};
 ghost use Rattle.trim.specs.Trim as spec;
 ghost use Rattle.trim.specs.Ranges.{range_count};
 
 // A trim, sampled: start and end in per cent, the offset in degrees, and the mode. Start and end stand apart: side by side
 // they would be stored one by one and then read as one, for which a processor waits.
-#[derive(Drop)]
+#[derive(Clone, Copy)]
 pub struct TrimStyle {
     pub start: f32,
     pub offset_degrees: f32,
@@ -14,7 +16,7 @@ pub struct TrimStyle {
 }
 
 // The visible ranges of a path's length. Two(s, e) stands for (s, 1) and (0, e).
-#[derive(Drop)]
+#[derive(Clone, Copy)]
 pub enum Ranges {
     Nothing,
     One(f32, f32),

@@ -1,5 +1,7 @@
 // Runs the vectors of the float functions: reads calls from standard input, one a line, and writes each line with its result.
 // tools/float_vectors.py makes the lines and says how they read.
+#![tactic(auto)]
+
 ghost use Rattle.std.specs.Prelude.{◌<◌};
 
 use libc::{STDIN_FILENO, STDOUT_FILENO};

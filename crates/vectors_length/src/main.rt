@@ -1,6 +1,8 @@
 // Runs the vectors of lengths, single commands and lengths that are reached: reads calls from standard input, one a line, and
 // writes what each answers.
 // tools/length_vectors.py makes the lines and says how they read.
+#![tactic(auto)]
+
 ghost use Rattle.std.specs.Prelude.{◌<◌};
 
 use length::Measured;

@@ -1,6 +1,8 @@
 // Runs the vectors of merges and of their needs: reads calls from standard input, one a line, and writes what each
 // leaves behind.
 // tools/merge_vectors.py makes the lines and says how they read.
+#![tactic(auto)]
+
 ghost use Rattle.std.specs.Prelude.{◌<◌};
 
 use libc::{STDIN_FILENO, STDOUT_FILENO};

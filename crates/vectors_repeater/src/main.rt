@@ -1,5 +1,7 @@
 // Runs the vectors of repeaters: reads calls from standard input, one a line, and writes what each answers.
 // tools/repeater_vectors.py makes the lines and says how they read.
+#![tactic(auto)]
+
 ghost use Rattle.std.specs.Prelude.{◌<◌, ◌≤◌};
 
 use copies::Written;

@@ -1,5 +1,7 @@
 // Runs the vectors of trims: reads calls from standard input, one a line, and writes what each answers.
 // tools/trim_vectors.py makes the lines and says how they read.
+#![tactic(auto)]
+
 use cut::{Shown, Trimmed};
 use libc::{STDIN_FILENO, STDOUT_FILENO};
 use trim::{Ranges, TrimStyle};

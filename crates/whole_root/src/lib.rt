@@ -1,5 +1,7 @@
 // The length of a vector by whole numbers, rounded once: the f32 nearest to the square root of x² + y², a tie to the even one.
 // Finite numbers are counted in units of 2^-149, the smallest f32, as `digits` * 2^`drops` of them.
+#![tactic(auto)]
+
 ghost use Rattle.std.specs.Prelude.{◌≡◌, false, not, ◌+◌, ◌-◌, ◌*◌, ◌^◌, ◌<◌, ◌≤◌, T};
 ghost use Rattle.std.specs.Float.{nan, binary32};
 ghost use Rattle.std.specs.Float.Ieee.{units, is_nan};
