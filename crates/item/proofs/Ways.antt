@@ -56,7 +56,7 @@ module _ (row : ItemRow) where
           unfolding is_listed
           count_none e = rw (le-leb 1 row.kind a, le-leb row.kind 14 b, le-leb row.hidden 1 d, ← t_is, m, ne_eqb row.kind 1 e)
 
-pub ruleset rules = (kind_zero, kind_past, hidden_past, mark_unlisted, path_listed, count_none)
+pub ruleset row_rules = (kind_zero, kind_past, hidden_past, mark_unlisted, path_listed, count_none)
 
 -- ---- entries_of
 module _ (row : ItemRow) where

@@ -103,8 +103,10 @@ module _ {k q b : ℕ} (Q : q + 56 ≤ 149) (B : b + 55 + k ≤ 127) where
 
   enlarged_twins : {p p' : Pen} (cs : List PathCommand) → PenTwin k q b p p' → AllOn q b (numbers_of cs) → PenTwin k q b (steps p cs) (steps p' (map (enlarged k) cs))
   unfolding steps
-  enlarged_twins [] P C = P
-  enlarged_twins (c ∷ cs) P C = let s = each_split (On q b) (coordinates_of c) (numbers_of cs) C in enlarged_twins cs (enlarged_twin P c s.0) s.1
+  enlarged_twins {p = p} {p' = p'} [] P C = P
+  enlarged_twins {p = p} {p' = p'} (c ∷ cs) P C =
+      let s = each_split (On q b) (coordinates_of c) (numbers_of cs) C in
+      enlarged_twins {p = step p c} {p' = step p' (enlarged k c)} cs (enlarged_twin P c s.0) s.1
 
   pub steps_twins : {p p' : Pen} {cs cs' : List PathCommand} → PenTwin k q b p p' → Twins k q b cs cs' → PenTwin k q b (steps p cs) (steps p' cs')
   steps_twins {p} {p'} {cs} P C = subst (λ (ds : List PathCommand). PenTwin k q b (steps p cs) (steps p' ds)) (sym C.commands) (enlarged_twins cs P C.grid)

@@ -1,0 +1,31 @@
+-- `curve::quad_length` meets its contract. Assumes nothing.
+use Prim.Native.Nat.{◌-◌}
+use Rattle.curve.specs.Curve.{quad_point}
+use Rattle.curve.proofs.Chords.{Walked}
+use Rattle.curve.proofs.Ways.{ways}
+use borrow.Author.Rules.{rules}
+use Rattle.curve.proofs.quad_length.Goals as goal
+
+pub loop-step-init : goal.loop-step-init
+loop-step-init c = search (rules, ways)
+
+pub overflow_add-step : goal.overflow_add-step
+overflow_add-step c = search (rules, ways)
+
+pub int_to_float-step : goal.int_to_float-step
+int_to_float-step c = search (rules, ways)
+
+pub eval_quad-point-requires : goal.eval_quad-point-requires
+eval_quad-point-requires c = search (rules, ways)
+
+pub distance-length-requires : goal.distance-length-requires
+distance-length-requires c = search (rules, ways)
+
+pub loop-step-smaller : goal.loop-step-smaller
+loop-step-smaller c = search (rules, ways)
+
+pub loop-step-preserved : goal.loop-step-preserved
+loop-step-preserved c = search (rules, ways)
+
+pub returns : goal.returns
+returns c = search (rules, ways)

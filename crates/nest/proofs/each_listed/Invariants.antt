@@ -1,0 +1,14 @@
+-- The loops of `nest::each_listed`.
+use mathlib.Core.Path.{◌≡◌}
+use Prim.Native.Nat.{◌-◌, ◌≤◌}
+use Rattle.item.specs.Rows.{is_listed}
+use Rattle.nest.specs.Lists.{rows_from, each_row}
+use borrow.Author.Rules.{rules}
+use Rattle.nest.proofs.Ways.{listeds}
+use Rattle.nest.proofs.each_listed.Given as goal
+
+abbrev pub invariant-loop-i : goal.invariant-loop-i
+invariant-loop-i l = (l.i ≤ l.n) × (each_row is_listed (rows_from l.rows l.i (l.n - l.i)) ≡ each_row is_listed (rows_from l.rows 0 l.n))
+
+abbrev pub decreases-loop-i : goal.decreases-loop-i
+decreases-loop-i l = l.n - l.i
