@@ -1,0 +1,11 @@
+-- The loops of `join::rows_need`.
+use borrow.Author.Rules.{rules}
+use Prim.Native.Nat.{◌-◌}
+use Rattle.join.proofs.Ways.{Needing, rows_needs}
+use Rattle.join.proofs.rows_need.Given as goal
+
+abbrev pub invariant-loop-i : goal.invariant-loop-i
+invariant-loop-i l = Needing l.rows l.m l.items l.codes l.numbers l.i
+
+abbrev pub decreases-loop-i : goal.decreases-loop-i
+decreases-loop-i l = l.m - l.i

@@ -1,0 +1,11 @@
+-- The loops of `join::write_rows`.
+use borrow.Author.Rules.{rules}
+use Prim.Native.Nat.{◌-◌}
+use Rattle.join.proofs.Ways.{Joining, rows_writes}
+use Rattle.join.proofs.write_rows.Given as goal
+
+abbrev pub invariant-loop-i : goal.invariant-loop-i
+invariant-loop-i l = Joining l.rows l.m l.items l.initial.codes l.initial.numbers l.codes l.numbers l.at l.to l.i
+
+abbrev pub decreases-loop-i : goal.decreases-loop-i
+decreases-loop-i l = l.m - l.i

@@ -1,0 +1,13 @@
+-- `need::path_need` meets its contract. Assumes nothing.
+use borrow.Author.Rules.{rules}
+use Rattle.need.proofs.Ways.{path_needs}
+use Rattle.need.proofs.path_need.Goals as goal
+
+pub need_of_path-need-requires : goal.need_of_path-need-requires
+need_of_path-need-requires c = search (rules, path_needs)
+
+pub returns-in-Refused : goal.returns-in-Refused
+returns-in-Refused c = search (rules, path_needs)
+
+pub returns-in-Passed : goal.returns-in-Passed
+returns-in-Passed c = search (rules, path_needs)
