@@ -92,7 +92,7 @@ module _ {k : ℕ} (K : k ≤ 6) where
         λ i. within repeater_limit (R.copies_same i) && (within repeater_limit (R.offset_same i)
         && (within_same R.ax_twin i && (within_same R.ay_twin i && (within_same R.x_twin i && (within_same R.y_twin i
         && (within repeater_limit ((R.wide_scale' ∙ sym R.wide_scale) i) && (within repeater_limit ((R.high_scale' ∙ sym R.high_scale) i)
-        && (within repeater_limit (turn_same i) && (within repeater_limit (R.start_same i) && (within repeater_limit (R.End-same i) && true))))))))))
+        && (within repeater_limit (turn_same i) && (within repeater_limit (R.start_same i) && (within repeater_limit (R.end_same i) && true))))))))))
 
     -- each check finds the same
     checks_same : repeater_checks r' ≡ repeater_checks r

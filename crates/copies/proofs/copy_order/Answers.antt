@@ -1,0 +1,28 @@
+-- `copies::copy_order` meets its contract. Assumes nothing.
+use borrow.Author.Rules.{rules}
+use Rattle.copies.proofs.Ways.{calls}
+use Rattle.copies.proofs.copy_order.Goals as goal
+
+pub check_repeater-requires : goal.check_repeater-requires
+check_repeater-requires c = search (rules, calls)
+
+pub enum_known-refusal : goal.enum_known-refusal
+enum_known-refusal c = search (rules, calls)
+
+pub enum_told-1 : goal.enum_told-1
+enum_told-1 c = search (rules, calls)
+
+pub copy_count-n-requires : goal.copy_count-n-requires
+copy_count-n-requires c = search (rules, calls)
+
+pub write_order-requires : goal.write_order-requires
+write_order-requires c = search (rules, calls)
+
+pub returns-in-Refused : goal.returns-in-Refused
+returns-in-Refused c = search (rules, calls)
+
+pub shape_of-order : goal.shape_of-order
+shape_of-order c = search (rules, calls)
+
+pub returns-in-Passed : goal.returns-in-Passed
+returns-in-Passed c = search (rules, calls)

@@ -1,0 +1,31 @@
+-- `plate_text::print_measured` meets its contract. Assumes nothing.
+use borrow.Author.Rules.{rules}
+use Rattle.plate_text.proofs.Ways.{measuring}
+use Rattle.plate_text.proofs.print_measured.Goals as goal
+
+pub path_length-requires : goal.path_length-requires
+path_length-requires c = search (rules, measuring)
+
+pub enum_known-refusal : goal.enum_known-refusal
+enum_known-refusal c = search (rules, measuring)
+
+pub print_refusal-requires : goal.print_refusal-requires
+print_refusal-requires c = search (rules, measuring)
+
+pub enum_known-total : goal.enum_known-total
+enum_known-total c = search (rules, measuring)
+
+pub print_answer-requires : goal.print_answer-requires
+print_answer-requires c = record { codes_in_bounds = search (rules, measuring); codes_in_bounds_2 = search (rules, measuring) }
+
+pub shape_of-out-in-Refused : goal.shape_of-out-in-Refused
+shape_of-out-in-Refused c = search (rules, measuring)
+
+pub returns-in-Refused : goal.returns-in-Refused
+returns-in-Refused c = record { value = search (rules, measuring); out_after = search (rules, measuring) }
+
+pub shape_of-out-in-Length : goal.shape_of-out-in-Length
+shape_of-out-in-Length c = search (rules, measuring)
+
+pub returns-in-Length : goal.returns-in-Length
+returns-in-Length c = record { value = search (rules, measuring); out_after = search (rules, measuring) }
