@@ -3,8 +3,8 @@
 #![tactic(auto)]
 
 ghost use Rattle.std.specs.Prelude.{◌≡◌, not, ◌≤◌, T};
-ghost use Rattle.std.specs.Float.{binary32};
-ghost use Rattle.std.specs.Float.Ieee.{is_nan};
+ghost use Rattle.std.specs.Float.{binary32, binary64};
+ghost use Rattle.std.specs.Float.Ieee.{add, mul, is_nan};
 ghost use Rattle.ieee.specs.Root.{hypot_of};
 ghost use Rattle.root.specs.Candidate.{Candidate, Sure, single_of};
 
@@ -28,6 +28,11 @@ fn guess(n: f64) -> f64
     let y = f64::from_bits(0x5fe6eb50c7b537a9 - f64::to_bits(n) % 0x8000_0000_0000_0000 / 2);
     let h = n * 0.5;
     newton(h * n, 1.5 * n, newton(h, 1.5000006, newton(h, 1.5008, y)))
+}
+
+// A guess at the square root of n, of which nothing is promised: the mean of d and n / d, a step of Heron's method from d.
+fn heron(n: f64, d: f64) -> f64 {
+    0.5 * d + n * (0.5 / d)
 }
 
 // The pattern of a number of 24 digits in binary32's normal range: the nearest to r where r is from 2^-63 to 2^64.
@@ -70,22 +75,25 @@ pub fn single(p: u64) -> f32
     f32::from_bits((p / 0x2000_0000 - 0x1_c000_0000) as u32)
 }
 
-// The f32 nearest to √(x² + y²), a tie to the even one; an infinity wins over a NaN. The squares are exact in binary64, and
-// n is their sum, rounded: where that is strictly between the squares of the midpoints, so is the sum itself. Here a branch
-// that is not taken costs less than `number`.
-pub fn hypot(x: f32, y: f32) -> f32
-    ensures { result ≡ hypot_of binary32 x y }
+// The sum of the squares in binary64, where each square is exact and the sum is rounded: a NaN where x or y is one.
+fn squares(x: f32, y: f32) -> f64
+    ensures { result ≡ add binary64 (mul binary64 x x) (mul binary64 y y) }
 {
     if x != x || y != y {
-        return whole_root::hypot_exact(x, y);
+        return 0.0 / 0.0;
     }
     let a = x as f64;
     let b = y as f64;
-    let n = a * a + b * b;
-    if n != n {
-        return whole_root::hypot_exact(x, y);
-    }
-    let r = guess(n);
+    a * a + b * b
+}
+
+// The length of the vector from a guess r at it, where n is the sum of the squares: where n is strictly between the squares
+// of the midpoints beside the candidate, so is the sum that is not rounded. Here a branch that is not taken costs less than
+// `number`.
+fn settle(x: f32, y: f32, n: f64, r: f64) -> f32
+    requires { n ≡ add binary64 (mul binary64 x x) (mul binary64 y y) }
+    ensures { result ≡ hypot_of binary32 x y }
+{
     if r != r {
         return whole_root::hypot_exact(x, y);
     }
@@ -94,4 +102,26 @@ pub fn hypot(x: f32, y: f32) -> f32
         return single(p);
     }
     whole_root::hypot_exact(x, y)
+}
+
+// The f32 nearest to √(x² + y²), a tie to the even one; an infinity wins over a NaN.
+pub fn hypot(x: f32, y: f32) -> f32
+    ensures { result ≡ hypot_of binary32 x y }
+{
+    let n = squares(x, y);
+    if n != n {
+        return whole_root::hypot_exact(x, y);
+    }
+    settle(x, y, n, guess(n))
+}
+
+// The same by a guess from a number near the root: one step of Heron's method in binary64. Nothing is asked of that number.
+pub fn hypot_near(x: f32, y: f32, near: f32) -> f32
+    ensures { result ≡ hypot_of binary32 x y }
+{
+    if near != near {
+        return whole_root::hypot_exact(x, y);
+    }
+    let n = squares(x, y);
+    settle(x, y, n, heron(n, near as f64))
 }
