@@ -1,5 +1,5 @@
 -- The cosine and the sine of an angle as the code makes them, and that a zero among them is +0. Assumes nothing.
-use Rattle.std.proofs.Common.{◌≡◌, ℕ, ◌+◌, ◌-◌, ◌^◌, ◌<◌, ◌≤◌, Bool, true, false, ltb, sym, refl, ap, ◌∙◌, subst, arith, lit<, ltb-false, ltb-true}
+use Rattle.std.proofs.Common.{◌≡◌, ℕ, ◌^◌, ◌<◌, ◌≤◌, Bool, true, false, ltb, sym, refl, ap, ◌∙◌, subst, arith, lit<, ltb-false, ltb-true}
 use lib.Ieee.{Float, binary32, round}
 use Rattle.ieee.specs.Literal.{zero32}
 use Rattle.ieee.specs.Sign.{is_zero}
@@ -13,7 +13,6 @@ use Rattle.sine.specs.Table.{entry}
 use Rattle.sine.proofs.Entries.{table_rises, entry_bound}
 use Rattle.sine.proofs.Ways.{fold_3, fold_4, on_1, on_2}
 use Rattle.sine.proofs.Turn.{fold_bound}
-use Rattle.angle.specs.declared.Direction.{Direction}
 use Rattle.angle.proofs.Entries.{over}
 use Rattle.angle.specs.Direction.{sine_of, cosine_of, direction_of, ZerosArePlus}
 

@@ -1,5 +1,5 @@
 -- A whole number of at most 2 ^ 30 as a float, over 2 ^ 30, is the float nearest to that fraction: both keep the same digits. Assumes nothing.
-use Rattle.std.proofs.Common.{◌≡◌, ℕ, ◌^◌, ◌<◌, ◌≤◌, Bool, true, false, pos, sym, refl, ap, ◌∙◌, lt_of_le_of_lt, mul-one, lit<, lit≤, pow_pos}
+use Rattle.std.proofs.Common.{◌≡◌, ℕ, ◌^◌, ◌≤◌, Bool, true, false, pos, sym, refl, ap, ◌∙◌, lt_of_le_of_lt, mul-one, lit<, lit≤, pow_pos}
 use lib.Ieee.{Float, binary32, round, of_int, div, neg, of_bits}
 use lib.Ieee.Exact.{HasValue}
 use lib.Ieee.Fits.{round-fits}

@@ -6,7 +6,7 @@ use native.Mathlib.Omega.{arith}
 use mathlib.Core.Bool.{Bool, true, false, not}
 use lib.Dec.{lit<}
 use lib.Pow.{pow_pos, pow_mono, shl_lt}
-use lib.Ieee.{Float, Format, binary64, size, nearest, round, sum, add, sub, mul, neg, of_bits}
+use lib.Ieee.{Float, Format, binary64, nearest, round, sum, add, sub, mul, neg, of_bits}
 use lib.Ieee.Exact.{HasValue}
 use lib.Ieee.Nearest.{closest}
 use Rattle.ieee.specs.Cut.{cut}

@@ -1,5 +1,5 @@
 -- `angle::sixteenths` meets its contract. Assumes nothing.
-use Rattle.std.proofs.Common.{T, sym, subst, arith, rules}
+use Rattle.std.proofs.Common.{T, sym, subst, arith}
 use Rattle.angle.proofs.Halves.{product_counted, halves_few, sixteenths_are}
 use Rattle.angle.proofs.sixteenths.Goals as goal
 

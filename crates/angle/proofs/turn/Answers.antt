@@ -1,5 +1,4 @@
 -- `angle::turn` meets its contract. Assumes nothing.
-use Rattle.std.proofs.Common.{rules}
 use Rattle.angle.proofs.Reduced.{turned_back, turned_forth}
 use Rattle.angle.proofs.turn.Goals as goal
 

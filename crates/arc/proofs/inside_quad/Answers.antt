@@ -1,9 +1,6 @@
 -- `arc::inside_quad` meets its contract. Assumes nothing.
 use Rattle.arc.proofs.Ways.{ways}
 use borrow.Author.Rules.{rules}
-use Prim.Native.Nat.{◌-◌, ◌≤◌}
-use Rattle.curve.specs.Curve.{quad_point}
-use Rattle.arc.specs.Traced.{Traced}
 use Rattle.arc.proofs.inside_quad.Goals as goal
 
 pub loop-step-init : goal.loop-step-init

@@ -1,9 +1,6 @@
 -- `arc::level_cubic` meets its contract. Assumes nothing.
 use Rattle.arc.proofs.Ways.{ways}
 use borrow.Author.Rules.{rules}
-use Prim.Native.Nat.{◌-◌, ◌≤◌}
-use Rattle.curve.specs.Curve.{cubic_point}
-use Rattle.arc.specs.Traced.{Traced}
 use Rattle.arc.proofs.level_cubic.Goals as goal
 
 pub loop-step-init : goal.loop-step-init

@@ -1,6 +1,4 @@
 -- The loops of `arc::level_cubic`.
-use Rattle.arc.proofs.Ways.{ways}
-use borrow.Author.Rules.{rules}
 use Prim.Native.Nat.{◌-◌, ◌≤◌}
 use Rattle.curve.specs.Curve.{cubic_point}
 use Rattle.arc.specs.Traced.{Traced}

@@ -1,9 +1,6 @@
 -- `arc::write_between` meets its contract. Assumes nothing.
 use Rattle.arc.proofs.Ways.{ways}
 use borrow.Author.Rules.{rules}
-use Prim.Native.Nat.{◌-◌, ◌*◌, ◌≤◌}
-use Rattle.curve.specs.Curve.{quad_point}
-use Rattle.arc.specs.Traced.{Traced, Thirds}
 use Rattle.arc.proofs.write_between.Goals as goal
 
 pub loop-eighth-init : goal.loop-eighth-init

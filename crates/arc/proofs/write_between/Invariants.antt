@@ -1,6 +1,4 @@
 -- The loops of `arc::write_between`.
-use Rattle.arc.proofs.Ways.{ways}
-use borrow.Author.Rules.{rules}
 use Prim.Native.Nat.{◌-◌, ◌*◌, ◌≤◌}
 use Rattle.curve.specs.Curve.{quad_point}
 use Rattle.arc.specs.Traced.{Traced, Thirds}

@@ -1,9 +1,5 @@
 -- `copies::are_finite` meets its contract. Assumes nothing.
 use borrow.Author.Rules.{rules}
-use mathlib.Core.Path.{◌≡◌}
-use Prim.Native.Nat.{◌-◌}
-use lib.ListN.{length, drop}
-use Rattle.copies.specs.Calls.{all_finite}
 use Rattle.copies.proofs.Ways.{finites}
 use Rattle.copies.proofs.are_finite.Goals as goal
 

@@ -1,10 +1,8 @@
 -- The loops of `copies::are_finite`.
-use borrow.Author.Rules.{rules}
 use mathlib.Core.Path.{◌≡◌}
 use Prim.Native.Nat.{◌-◌}
 use lib.ListN.{length, drop}
 use Rattle.copies.specs.Calls.{all_finite}
-use Rattle.copies.proofs.Ways.{finites}
 use Rattle.copies.proofs.are_finite.Given as goal
 
 abbrev pub invariant-loop-i : goal.invariant-loop-i

@@ -1,6 +1,6 @@
 -- `copies::put_falling` meets its contract. Assumes nothing.
 use borrow.Author.Rules.{rules}
-use Rattle.copies.proofs.Ways.{Falling, fallings}
+use Rattle.copies.proofs.Ways.{fallings}
 use Rattle.copies.proofs.put_falling.Goals as goal
 
 pub loop-left-init : goal.loop-left-init

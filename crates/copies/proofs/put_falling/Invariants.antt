@@ -1,6 +1,5 @@
 -- The loops of `copies::put_falling`.
-use borrow.Author.Rules.{rules}
-use Rattle.copies.proofs.Ways.{Falling, fallings}
+use Rattle.copies.proofs.Ways.{Falling}
 use Rattle.copies.proofs.put_falling.Given as goal
 
 abbrev pub invariant-loop-left : goal.invariant-loop-left

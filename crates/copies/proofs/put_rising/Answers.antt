@@ -1,7 +1,6 @@
 -- `copies::put_rising` meets its contract. Assumes nothing.
 use borrow.Author.Rules.{rules}
-use Prim.Native.Nat.{◌-◌}
-use Rattle.copies.proofs.Ways.{Rising, risings}
+use Rattle.copies.proofs.Ways.{risings}
 use Rattle.copies.proofs.put_rising.Goals as goal
 
 pub loop-i-init : goal.loop-i-init

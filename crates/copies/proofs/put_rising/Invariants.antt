@@ -1,7 +1,6 @@
 -- The loops of `copies::put_rising`.
-use borrow.Author.Rules.{rules}
 use Prim.Native.Nat.{◌-◌}
-use Rattle.copies.proofs.Ways.{Rising, risings}
+use Rattle.copies.proofs.Ways.{Rising}
 use Rattle.copies.proofs.put_rising.Given as goal
 
 abbrev pub invariant-loop-i : goal.invariant-loop-i

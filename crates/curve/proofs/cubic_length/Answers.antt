@@ -1,7 +1,4 @@
 -- `curve::cubic_length` meets its contract. Assumes nothing.
-use Prim.Native.Nat.{◌-◌}
-use Rattle.curve.specs.Curve.{cubic_point}
-use Rattle.curve.proofs.Chords.{Walked}
 use Rattle.curve.proofs.Ways.{ways}
 use borrow.Author.Rules.{rules}
 use Rattle.curve.proofs.cubic_length.Goals as goal

@@ -1,7 +1,4 @@
 -- `curve::quad_length` meets its contract. Assumes nothing.
-use Prim.Native.Nat.{◌-◌}
-use Rattle.curve.specs.Curve.{quad_point}
-use Rattle.curve.proofs.Chords.{Walked}
 use Rattle.curve.proofs.Ways.{ways}
 use borrow.Author.Rules.{rules}
 use Rattle.curve.proofs.quad_length.Goals as goal

@@ -2,8 +2,6 @@
 use Prim.Native.Nat.{◌-◌}
 use Rattle.curve.specs.Curve.{quad_point}
 use Rattle.curve.proofs.Chords.{Walked}
-use Rattle.curve.proofs.Ways.{ways}
-use borrow.Author.Rules.{rules}
 use Rattle.curve.proofs.quad_length.Given as goal
 
 abbrev pub invariant-loop-step : goal.invariant-loop-step

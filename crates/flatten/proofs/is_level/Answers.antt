@@ -1,7 +1,5 @@
 -- `flatten::is_level` meets its contract. Assumes nothing.
 use Rattle.flatten.proofs.Ways.{ways}
-use Prim.Native.Nat.{◌-◌}
-use Rattle.flatten.proofs.Near.{Passed}
 use borrow.Author.Rules.{rules}
 use Rattle.flatten.proofs.is_level.Goals as goal
 

@@ -1,8 +1,6 @@
 -- The loops of `flatten::is_level`.
-use Rattle.flatten.proofs.Ways.{ways}
 use Prim.Native.Nat.{◌-◌}
 use Rattle.flatten.proofs.Near.{Passed}
-use borrow.Author.Rules.{rules}
 use Rattle.flatten.proofs.is_level.Given as goal
 
 abbrev pub invariant-loop-i : goal.invariant-loop-i

@@ -1,6 +1,5 @@
 -- The loops of `flatten::largest`.
 use Prim.Native.Nat.{◌-◌, ◌≤◌}
-use borrow.Author.Rules.{rules}
 use Rattle.flatten.proofs.largest.Given as goal
 
 abbrev pub invariant-loop-i : goal.invariant-loop-i

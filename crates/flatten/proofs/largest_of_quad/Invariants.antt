@@ -1,6 +1,5 @@
 -- The loops of `flatten::largest_of_quad`.
 use Prim.Native.Nat.{◌-◌, ◌≤◌}
-use borrow.Author.Rules.{rules}
 use Rattle.flatten.proofs.largest_of_quad.Given as goal
 
 abbrev pub invariant-loop-i : goal.invariant-loop-i

@@ -1,8 +1,6 @@
 -- `float::few_within` meets its contract. Assumes nothing.
 use borrow.Author.Rules.{rules}
-use Prim.Native.Nat.{◌-◌}
-use lib.ListN.{length}
-use Rattle.float.proofs.Ways.{Left, limits}
+use Rattle.float.proofs.Ways.{limits}
 use Rattle.float.proofs.few_within.Goals as goal
 
 pub loop-i-init : goal.loop-i-init

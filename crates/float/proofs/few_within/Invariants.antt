@@ -1,8 +1,7 @@
 -- The loops of `float::few_within`.
-use borrow.Author.Rules.{rules}
 use Prim.Native.Nat.{◌-◌}
 use lib.ListN.{length}
-use Rattle.float.proofs.Ways.{Left, limits}
+use Rattle.float.proofs.Ways.{Left}
 use Rattle.float.proofs.few_within.Given as goal
 
 abbrev pub invariant-loop-i : goal.invariant-loop-i

@@ -1,8 +1,6 @@
 -- `float::many_within` meets its contract. Assumes nothing.
-use Rattle.float.proofs.Ways.{Rest, limits}
+use Rattle.float.proofs.Ways.{limits}
 use borrow.Author.Rules.{rules}
-use Prim.Native.Nat.{◌-◌}
-use lib.ListN.{length}
 use Rattle.float.proofs.many_within.Goals as goal
 
 pub loop-k-init : goal.loop-k-init

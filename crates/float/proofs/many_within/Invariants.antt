@@ -1,6 +1,5 @@
 -- The loops of `float::many_within`.
-use Rattle.float.proofs.Ways.{Rest, limits}
-use borrow.Author.Rules.{rules}
+use Rattle.float.proofs.Ways.{Rest}
 use Prim.Native.Nat.{◌-◌}
 use lib.ListN.{length}
 use Rattle.float.proofs.many_within.Given as goal

@@ -1,7 +1,6 @@
 -- `item::item_row` meets its contract. Assumes nothing.
 use Prim.Native.Nat.{◌+◌, ◌*◌}
 use native.Mathlib.Omega.{arith}
-use borrow.Author.Rules.{rules}
 use Rattle.item.proofs.item_row.Goals as goal
 
 pub overflow_cast-result : goal.overflow_cast-result

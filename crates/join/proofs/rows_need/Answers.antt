@@ -1,7 +1,6 @@
 -- `join::rows_need` meets its contract. Assumes nothing.
 use borrow.Author.Rules.{rules}
-use Prim.Native.Nat.{◌-◌}
-use Rattle.join.proofs.Ways.{Needing, rows_needs}
+use Rattle.join.proofs.Ways.{rows_needs}
 use Rattle.join.proofs.rows_need.Goals as goal
 
 pub loop-i-init : goal.loop-i-init

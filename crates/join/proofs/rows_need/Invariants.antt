@@ -1,7 +1,6 @@
 -- The loops of `join::rows_need`.
-use borrow.Author.Rules.{rules}
 use Prim.Native.Nat.{◌-◌}
-use Rattle.join.proofs.Ways.{Needing, rows_needs}
+use Rattle.join.proofs.Ways.{Needing}
 use Rattle.join.proofs.rows_need.Given as goal
 
 abbrev pub invariant-loop-i : goal.invariant-loop-i

@@ -1,7 +1,6 @@
 -- `join::write_rows` meets its contract. Assumes nothing.
 use borrow.Author.Rules.{rules}
-use Prim.Native.Nat.{◌-◌}
-use Rattle.join.proofs.Ways.{Joining, rows_writes}
+use Rattle.join.proofs.Ways.{rows_writes}
 use Rattle.join.proofs.write_rows.Goals as goal
 
 pub loop-i-init : goal.loop-i-init

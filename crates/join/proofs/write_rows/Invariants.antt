@@ -1,7 +1,6 @@
 -- The loops of `join::write_rows`.
-use borrow.Author.Rules.{rules}
 use Prim.Native.Nat.{◌-◌}
-use Rattle.join.proofs.Ways.{Joining, rows_writes}
+use Rattle.join.proofs.Ways.{Joining}
 use Rattle.join.proofs.write_rows.Given as goal
 
 abbrev pub invariant-loop-i : goal.invariant-loop-i

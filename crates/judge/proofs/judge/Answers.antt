@@ -1,9 +1,6 @@
 -- `judge::judge` meets its contract. Assumes nothing.
 use borrow.Author.Rules.{rules}
-use Prim.Native.Nat.{◌-◌}
-use lib.ListN.{length}
-use Rattle.judge.proofs.Walk.{Left}
-use Rattle.judge.proofs.Ways.{nothing, judging}
+use Rattle.judge.proofs.Ways.{judging}
 use Rattle.judge.proofs.judge.Goals as goal
 
 pub returns-then-codes-gt262144 : goal.returns-then-codes-gt262144

@@ -1,9 +1,8 @@
 -- The loops of `judge::judge`.
-use borrow.Author.Rules.{rules}
 use Prim.Native.Nat.{◌-◌}
 use lib.ListN.{length}
 use Rattle.judge.proofs.Walk.{Left}
-use Rattle.judge.proofs.Ways.{nothing, judging}
+use Rattle.judge.proofs.Ways.{nothing}
 use Rattle.judge.proofs.judge.Given as goal
 
 abbrev pub invariant-loop-i : goal.invariant-loop-i

@@ -1,8 +1,5 @@
 -- `judge::place_of` meets its contract. Assumes nothing.
 use borrow.Author.Rules.{rules}
-use mathlib.Core.Path.{◌≡◌}
-use Prim.Native.Nat.{◌-◌, ◌≤◌}
-use Rattle.judge.specs.Lists.{place_of}
 use Rattle.judge.proofs.Ways.{places}
 use Rattle.judge.proofs.place_of.Goals as goal
 

@@ -1,9 +1,7 @@
 -- The loops of `judge::place_of`.
-use borrow.Author.Rules.{rules}
 use mathlib.Core.Path.{◌≡◌}
 use Prim.Native.Nat.{◌-◌, ◌≤◌}
 use Rattle.judge.specs.Lists.{place_of}
-use Rattle.judge.proofs.Ways.{places}
 use Rattle.judge.proofs.place_of.Given as goal
 
 abbrev pub invariant-loop-i : goal.invariant-loop-i

@@ -1,8 +1,6 @@
 -- `length::walk` meets its contract. Assumes nothing.
 use borrow.Author.Rules.{rules}
-use Prim.Native.Nat.{◌-◌}
-use lib.ListN.{length}
-use Rattle.length.proofs.Ways.{LeftToWalk, walking}
+use Rattle.length.proofs.Ways.{walking}
 use Rattle.length.proofs.walk.Goals as goal
 
 pub start-pen-requires : goal.start-pen-requires

@@ -1,8 +1,7 @@
 -- The loops of `length::walk`.
-use borrow.Author.Rules.{rules}
 use Prim.Native.Nat.{◌-◌}
 use lib.ListN.{length}
-use Rattle.length.proofs.Ways.{LeftToWalk, walking}
+use Rattle.length.proofs.Ways.{LeftToWalk}
 use Rattle.length.proofs.walk.Given as goal
 
 abbrev pub invariant-loop-until : goal.invariant-loop-until

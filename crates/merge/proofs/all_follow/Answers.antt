@@ -1,10 +1,5 @@
 -- `merge::all_follow` meets its contract. Assumes nothing.
 use borrow.Author.Rules.{rules}
-use mathlib.Core.Path.{◌≡◌}
-use mathlib.Core.Bool.{true}
-use Prim.Native.Nat.{◌-◌}
-use Rattle.nest.specs.Lists.{rows_from}
-use Rattle.merge.specs.Flat.{late_from}
 use Rattle.merge.proofs.Ways.{lates}
 use Rattle.merge.proofs.all_follow.Goals as goal
 

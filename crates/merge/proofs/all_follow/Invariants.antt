@@ -1,11 +1,9 @@
 -- The loops of `merge::all_follow`.
-use borrow.Author.Rules.{rules}
 use mathlib.Core.Path.{◌≡◌}
 use mathlib.Core.Bool.{true}
 use Prim.Native.Nat.{◌-◌}
 use Rattle.nest.specs.Lists.{rows_from}
 use Rattle.merge.specs.Flat.{late_from}
-use Rattle.merge.proofs.Ways.{lates}
 use Rattle.merge.proofs.all_follow.Given as goal
 
 abbrev pub invariant-loop-i : goal.invariant-loop-i

@@ -1,9 +1,5 @@
 -- `merge::find_merge` meets its contract. Assumes nothing.
 use borrow.Author.Rules.{rules}
-use mathlib.Core.Path.{◌≡◌}
-use Prim.Native.Nat.{◌-◌, ◌≤◌}
-use Rattle.nest.specs.Lists.{rows_from}
-use Rattle.merge.specs.Flat.{scan_from}
 use Rattle.merge.proofs.Ways.{scans}
 use Rattle.merge.proofs.find_merge.Goals as goal
 

@@ -1,10 +1,8 @@
 -- The loops of `merge::find_merge`.
-use borrow.Author.Rules.{rules}
 use mathlib.Core.Path.{◌≡◌}
 use Prim.Native.Nat.{◌-◌, ◌≤◌}
 use Rattle.nest.specs.Lists.{rows_from}
 use Rattle.merge.specs.Flat.{scan_from}
-use Rattle.merge.proofs.Ways.{scans}
 use Rattle.merge.proofs.find_merge.Given as goal
 
 abbrev pub invariant-loop-i : goal.invariant-loop-i

@@ -1,8 +1,4 @@
 -- `nest::each_listed` meets its contract. Assumes nothing.
-use mathlib.Core.Path.{◌≡◌}
-use Prim.Native.Nat.{◌-◌, ◌≤◌}
-use Rattle.item.specs.Rows.{is_listed}
-use Rattle.nest.specs.Lists.{rows_from, each_row}
 use borrow.Author.Rules.{rules}
 use Rattle.nest.proofs.Ways.{listeds}
 use Rattle.nest.proofs.each_listed.Goals as goal

@@ -1,7 +1,4 @@
 -- `nest::each_shallow` meets its contract. Assumes nothing.
-use mathlib.Core.Path.{◌≡◌}
-use Prim.Native.Nat.{◌-◌, ◌≤◌}
-use Rattle.nest.specs.Lists.{rows_from, each_row, is_shallow}
 use borrow.Author.Rules.{rules}
 use Rattle.nest.proofs.Ways.{shallows}
 use Rattle.nest.proofs.each_shallow.Goals as goal

@@ -2,8 +2,6 @@
 use mathlib.Core.Path.{◌≡◌}
 use Prim.Native.Nat.{◌-◌, ◌≤◌}
 use Rattle.nest.specs.Lists.{rows_from, each_row, is_shallow}
-use borrow.Author.Rules.{rules}
-use Rattle.nest.proofs.Ways.{shallows}
 use Rattle.nest.proofs.each_shallow.Given as goal
 
 abbrev pub invariant-loop-i : goal.invariant-loop-i

@@ -1,8 +1,4 @@
 -- `nest::is_nested` meets its contract. Assumes nothing.
-use mathlib.Core.Path.{◌≡◌}
-use mathlib.Core.Bool.{true}
-use Prim.Native.Nat.{◌-◌, ◌≤◌}
-use Rattle.nest.specs.Lists.{rows_from, each_row, is_shallow, is_nested}
 use borrow.Author.Rules.{rules}
 use Rattle.nest.proofs.Ways.{nesteds}
 use Rattle.nest.proofs.is_nested.Goals as goal

@@ -3,8 +3,6 @@ use mathlib.Core.Path.{◌≡◌}
 use mathlib.Core.Bool.{true}
 use Prim.Native.Nat.{◌-◌, ◌≤◌}
 use Rattle.nest.specs.Lists.{rows_from, each_row, is_shallow, is_nested}
-use borrow.Author.Rules.{rules}
-use Rattle.nest.proofs.Ways.{nesteds}
 use Rattle.nest.proofs.is_nested.Given as goal
 
 abbrev pub invariant-loop-i : goal.invariant-loop-i

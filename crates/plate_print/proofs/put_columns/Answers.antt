@@ -1,8 +1,6 @@
 -- `plate_print::put_columns` meets its contract. Assumes nothing.
 use borrow.Author.Rules.{rules}
-use Rattle.plate_print.proofs.Ways.{Columns, columns_ways}
-use lib.ListN.{length}
-use Prim.Native.Nat.{◌-◌}
+use Rattle.plate_print.proofs.Ways.{columns_ways}
 use Rattle.plate_print.proofs.put_columns.Goals as goal
 
 pub loop-i-init : goal.loop-i-init

@@ -1,6 +1,5 @@
 -- The loops of `plate_print::put_columns`.
-use borrow.Author.Rules.{rules}
-use Rattle.plate_print.proofs.Ways.{Columns, columns_ways}
+use Rattle.plate_print.proofs.Ways.{Columns}
 use lib.ListN.{length}
 use Prim.Native.Nat.{◌-◌}
 use Rattle.plate_print.proofs.put_columns.Given as goal

@@ -1,8 +1,6 @@
 -- `plate_print::put_commands` meets its contract. Assumes nothing.
 use borrow.Author.Rules.{rules}
-use Rattle.plate_print.proofs.Ways.{Printing, printing_turn, command_ways}
-use lib.ListN.{length}
-use Prim.Native.Nat.{◌-◌}
+use Rattle.plate_print.proofs.Ways.{printing_turn, command_ways}
 use Rattle.plate_print.proofs.put_commands.Goals as goal
 
 pub loop-i-init : goal.loop-i-init

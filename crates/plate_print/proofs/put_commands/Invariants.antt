@@ -1,6 +1,5 @@
 -- The loops of `plate_print::put_commands`.
-use borrow.Author.Rules.{rules}
-use Rattle.plate_print.proofs.Ways.{Printing, printing_turn, command_ways}
+use Rattle.plate_print.proofs.Ways.{Printing}
 use lib.ListN.{length}
 use Prim.Native.Nat.{◌-◌}
 use Rattle.plate_print.proofs.put_commands.Given as goal

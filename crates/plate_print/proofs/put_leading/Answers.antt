@@ -1,6 +1,6 @@
 -- `plate_print::put_leading` meets its contract. Assumes nothing.
 use borrow.Author.Rules.{rules}
-use Rattle.plate_print.proofs.Ways.{Leading, leads}
+use Rattle.plate_print.proofs.Ways.{leads}
 use Rattle.plate_print.proofs.put_leading.Goals as goal
 
 pub loop-left-init : goal.loop-left-init

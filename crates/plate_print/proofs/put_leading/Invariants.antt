@@ -1,6 +1,5 @@
 -- The loops of `plate_print::put_leading`.
-use borrow.Author.Rules.{rules}
-use Rattle.plate_print.proofs.Ways.{Leading, leads}
+use Rattle.plate_print.proofs.Ways.{Leading}
 use Rattle.plate_print.proofs.put_leading.Given as goal
 
 abbrev pub invariant-loop-left : goal.invariant-loop-left

@@ -1,9 +1,5 @@
 -- `plate_read::blanks` meets its contract. Assumes nothing.
 use borrow.Author.Rules.{rules}
-use mathlib.Core.Path.{◌≡◌}
-use Prim.Native.Nat.{◌-◌, ◌≤◌}
-use lib.ListN.{length, drop}
-use Rattle.plate_read.specs.Text.{unblanked}
 use Rattle.plate_read.proofs.Fields.{blanked}
 use Rattle.plate_read.proofs.blanks.Goals as goal
 

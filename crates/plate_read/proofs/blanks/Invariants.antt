@@ -1,10 +1,8 @@
 -- The loops of `plate_read::blanks`.
-use borrow.Author.Rules.{rules}
 use mathlib.Core.Path.{◌≡◌}
 use Prim.Native.Nat.{◌-◌, ◌≤◌}
 use lib.ListN.{length, drop}
 use Rattle.plate_read.specs.Text.{unblanked}
-use Rattle.plate_read.proofs.Fields.{blanked}
 use Rattle.plate_read.proofs.blanks.Given as goal
 
 abbrev pub invariant-loop-i : goal.invariant-loop-i

@@ -1,8 +1,6 @@
 -- `plate_read::check_lines` meets its contract. Assumes nothing.
 use borrow.Author.Rules.{rules}
-use Prim.Native.Nat.{◌-◌, ◌≤◌}
-use lib.ListN.{length}
-use Rattle.plate_read.proofs.Lines.{Checking, checks}
+use Rattle.plate_read.proofs.Lines.{checks}
 use Rattle.plate_read.proofs.check_lines.Goals as goal
 
 pub loop-at-init : goal.loop-at-init

@@ -1,8 +1,7 @@
 -- The loops of `plate_read::check_lines`.
-use borrow.Author.Rules.{rules}
 use Prim.Native.Nat.{◌-◌, ◌≤◌}
 use lib.ListN.{length}
-use Rattle.plate_read.proofs.Lines.{Checking, checks}
+use Rattle.plate_read.proofs.Lines.{Checking}
 use Rattle.plate_read.proofs.check_lines.Given as goal
 
 abbrev pub invariant-loop-at : goal.invariant-loop-at

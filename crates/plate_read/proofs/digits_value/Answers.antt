@@ -1,9 +1,5 @@
 -- `plate_read::digits_value` meets its contract. Assumes nothing.
 use borrow.Author.Rules.{rules}
-use mathlib.Core.Path.{◌≡◌}
-use Prim.Native.Nat.{◌-◌, ◌≤◌}
-use lib.ListN.{length, drop}
-use Rattle.plate_read.specs.Fields.{pattern_after}
 use Rattle.plate_read.proofs.Fields.{values}
 use Rattle.plate_read.proofs.digits_value.Goals as goal
 

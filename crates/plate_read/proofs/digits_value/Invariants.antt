@@ -1,10 +1,8 @@
 -- The loops of `plate_read::digits_value`.
-use borrow.Author.Rules.{rules}
 use mathlib.Core.Path.{◌≡◌}
 use Prim.Native.Nat.{◌-◌, ◌≤◌}
 use lib.ListN.{length, drop}
 use Rattle.plate_read.specs.Fields.{pattern_after}
-use Rattle.plate_read.proofs.Fields.{values}
 use Rattle.plate_read.proofs.digits_value.Given as goal
 
 abbrev pub invariant-loop-i : goal.invariant-loop-i

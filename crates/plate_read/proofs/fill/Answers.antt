@@ -1,8 +1,6 @@
 -- `plate_read::fill` meets its contract. Assumes nothing.
 use borrow.Author.Rules.{rules}
-use Prim.Native.Nat.{◌-◌}
-use lib.ListN.{length}
-use Rattle.plate_read.proofs.Fills.{Filling, fills}
+use Rattle.plate_read.proofs.Fills.{fills}
 use Rattle.plate_read.proofs.fill.Goals as goal
 
 pub loop-at-init : goal.loop-at-init

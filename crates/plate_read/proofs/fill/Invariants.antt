@@ -1,8 +1,7 @@
 -- The loops of `plate_read::fill`.
-use borrow.Author.Rules.{rules}
 use Prim.Native.Nat.{◌-◌}
 use lib.ListN.{length}
-use Rattle.plate_read.proofs.Fills.{Filling, fills}
+use Rattle.plate_read.proofs.Fills.{Filling}
 use Rattle.plate_read.proofs.fill.Given as goal
 
 abbrev pub invariant-loop-at : goal.invariant-loop-at

@@ -1,6 +1,6 @@
 -- `plate_read::fill_line` meets its contract. Assumes nothing.
 use borrow.Author.Rules.{rules}
-use Rattle.plate_read.proofs.Fills.{FillingLine, line_fills}
+use Rattle.plate_read.proofs.Fills.{line_fills}
 use Rattle.plate_read.proofs.fill_line.Goals as goal
 
 pub loop-left-init : goal.loop-left-init

@@ -1,6 +1,5 @@
 -- The loops of `plate_read::fill_line`.
-use borrow.Author.Rules.{rules}
-use Rattle.plate_read.proofs.Fills.{FillingLine, line_fills}
+use Rattle.plate_read.proofs.Fills.{FillingLine}
 use Rattle.plate_read.proofs.fill_line.Given as goal
 
 abbrev pub invariant-loop-left : goal.invariant-loop-left

@@ -1,8 +1,6 @@
 -- `plate_read::line_form` meets its contract. Assumes nothing.
 use borrow.Author.Rules.{rules}
-use Prim.Native.Nat.{◌≤◌}
-use lib.ListN.{length}
-use Rattle.plate_read.proofs.Lines.{LineLeft, lines}
+use Rattle.plate_read.proofs.Lines.{lines}
 use Rattle.plate_read.proofs.line_form.Goals as goal
 
 pub loop-left-init : goal.loop-left-init

@@ -1,8 +1,7 @@
 -- The loops of `plate_read::line_form`.
-use borrow.Author.Rules.{rules}
 use Prim.Native.Nat.{◌≤◌}
 use lib.ListN.{length}
-use Rattle.plate_read.proofs.Lines.{LineLeft, lines}
+use Rattle.plate_read.proofs.Lines.{LineLeft}
 use Rattle.plate_read.proofs.line_form.Given as goal
 
 abbrev pub invariant-loop-left : goal.invariant-loop-left

@@ -1,6 +1,4 @@
 -- `polyline::measure` meets its contract. Assumes nothing.
-use Prim.Native.Nat.{◌-◌}
-use Rattle.polyline.proofs.Measured.{Measured}
 use Rattle.polyline.proofs.Ways.{ways}
 use borrow.Author.Rules.{rules}
 use Rattle.polyline.proofs.measure.Goals as goal

@@ -1,8 +1,6 @@
 -- The loops of `polyline::measure`.
 use Prim.Native.Nat.{◌-◌}
 use Rattle.polyline.proofs.Measured.{Measured}
-use Rattle.polyline.proofs.Ways.{ways}
-use borrow.Author.Rules.{rules}
 use Rattle.polyline.proofs.measure.Given as goal
 
 abbrev pub invariant-loop-i : goal.invariant-loop-i

@@ -1,6 +1,4 @@
 -- `polyline::one_by_one` meets its contract. Assumes nothing.
-use Prim.Native.Nat.{◌-◌}
-use Rattle.polyline.proofs.Measured.{Walked}
 use Rattle.polyline.proofs.Ways.{ways}
 use borrow.Author.Rules.{rules}
 use Rattle.polyline.proofs.one_by_one.Goals as goal

@@ -1,8 +1,6 @@
 -- The loops of `polyline::one_by_one`.
 use Prim.Native.Nat.{◌-◌}
 use Rattle.polyline.proofs.Measured.{Walked}
-use Rattle.polyline.proofs.Ways.{ways}
-use borrow.Author.Rules.{rules}
 use Rattle.polyline.proofs.one_by_one.Given as goal
 
 abbrev pub invariant-loop-k : goal.invariant-loop-k

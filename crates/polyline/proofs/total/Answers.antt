@@ -1,6 +1,4 @@
 -- `polyline::total` meets its contract. Assumes nothing.
-use Prim.Native.Nat.{◌-◌}
-use Rattle.polyline.proofs.Measured.{Added}
 use Rattle.polyline.proofs.Ways.{ways}
 use borrow.Author.Rules.{rules}
 use Rattle.polyline.proofs.total.Goals as goal

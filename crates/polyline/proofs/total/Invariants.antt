@@ -1,8 +1,6 @@
 -- The loops of `polyline::total`.
 use Prim.Native.Nat.{◌-◌}
 use Rattle.polyline.proofs.Measured.{Added}
-use Rattle.polyline.proofs.Ways.{ways}
-use borrow.Author.Rules.{rules}
 use Rattle.polyline.proofs.total.Given as goal
 
 abbrev pub invariant-loop-k : goal.invariant-loop-k

@@ -1,6 +1,5 @@
 -- `remainder::whole_rem` meets its contract. Assumes nothing.
 use Rattle.remainder.proofs.Ways.{rem_shift, rem_period}
-use borrow.Author.Rules.{rules}
 use Rattle.remainder.proofs.whole_rem.Goals as goal
 
 pub returns-then-j-lt15 : goal.returns-then-j-lt15

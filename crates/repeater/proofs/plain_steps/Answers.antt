@@ -1,8 +1,5 @@
 -- `repeater::plain_steps` meets its contract. Assumes nothing.
 use borrow.Author.Rules.{rules}
-use mathlib.Core.Path.{◌≡◌}
-use Prim.Native.Nat.{◌-◌, ◌≤◌}
-use Rattle.repeater.specs.Repeater.{steps}
 use Rattle.repeater.proofs.Ways.{repeating}
 use Rattle.repeater.proofs.plain_steps.Goals as goal
 

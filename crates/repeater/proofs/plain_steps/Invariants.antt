@@ -1,9 +1,7 @@
 -- The loops of `repeater::plain_steps`.
-use borrow.Author.Rules.{rules}
 use mathlib.Core.Path.{◌≡◌}
 use Prim.Native.Nat.{◌-◌, ◌≤◌}
 use Rattle.repeater.specs.Repeater.{steps}
-use Rattle.repeater.proofs.Ways.{repeating}
 use Rattle.repeater.proofs.plain_steps.Given as goal
 
 abbrev pub invariant-loop-i : goal.invariant-loop-i

@@ -1,8 +1,5 @@
 -- `repeater::upright_steps` meets its contract. Assumes nothing.
 use borrow.Author.Rules.{rules}
-use mathlib.Core.Path.{◌≡◌}
-use Prim.Native.Nat.{◌-◌, ◌≤◌}
-use Rattle.repeater.specs.Upright.{upright_steps}
 use Rattle.repeater.proofs.Ways.{quickly}
 use Rattle.repeater.proofs.upright_steps.Goals as goal
 

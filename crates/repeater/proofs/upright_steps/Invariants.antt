@@ -1,9 +1,7 @@
 -- The loops of `repeater::upright_steps`.
-use borrow.Author.Rules.{rules}
 use mathlib.Core.Path.{◌≡◌}
 use Prim.Native.Nat.{◌-◌, ◌≤◌}
 use Rattle.repeater.specs.Upright.{upright_steps}
-use Rattle.repeater.proofs.Ways.{quickly}
 use Rattle.repeater.proofs.upright_steps.Given as goal
 
 abbrev pub invariant-loop-i : goal.invariant-loop-i

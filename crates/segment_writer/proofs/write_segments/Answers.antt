@@ -1,7 +1,6 @@
 -- `segment_writer::write_segments` meets its contract. Assumes nothing.
 use borrow.Author.Rules.{rules}
-use Prim.Native.Nat.{◌-◌}
-use Rattle.segment_writer.proofs.Ways.{Carried, carries}
+use Rattle.segment_writer.proofs.Ways.{carries}
 use Rattle.segment_writer.proofs.write_segments.Goals as goal
 
 pub overflow_sub-last : goal.overflow_sub-last

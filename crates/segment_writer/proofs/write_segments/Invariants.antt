@@ -1,7 +1,6 @@
 -- The loops of `segment_writer::write_segments`.
-use borrow.Author.Rules.{rules}
 use Prim.Native.Nat.{◌-◌}
-use Rattle.segment_writer.proofs.Ways.{Carried, carries}
+use Rattle.segment_writer.proofs.Ways.{Carried}
 use Rattle.segment_writer.proofs.write_segments.Given as goal
 
 abbrev pub invariant-loop-k : goal.invariant-loop-k

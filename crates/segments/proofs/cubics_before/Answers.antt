@@ -1,7 +1,6 @@
 -- `segments::cubics_before` meets its contract. Assumes nothing.
 use borrow.Author.Rules.{rules}
-use Prim.Native.Nat.{◌-◌}
-use Rattle.segments.proofs.Ways.{Passed, passings}
+use Rattle.segments.proofs.Ways.{passings}
 use Rattle.segments.proofs.cubics_before.Goals as goal
 
 pub loop-j-init : goal.loop-j-init

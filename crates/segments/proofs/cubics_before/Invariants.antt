@@ -1,7 +1,6 @@
 -- The loops of `segments::cubics_before`.
-use borrow.Author.Rules.{rules}
 use Prim.Native.Nat.{◌-◌}
-use Rattle.segments.proofs.Ways.{Passed, passings}
+use Rattle.segments.proofs.Ways.{Passed}
 use Rattle.segments.proofs.cubics_before.Given as goal
 
 abbrev pub invariant-loop-j : goal.invariant-loop-j

@@ -1,7 +1,6 @@
 -- `segments::numbers_between` meets its contract. Assumes nothing.
 use borrow.Author.Rules.{rules}
-use Prim.Native.Nat.{◌-◌}
-use Rattle.segments.proofs.Ways.{Tally, tallies, tally_more}
+use Rattle.segments.proofs.Ways.{tallies, tally_more}
 use Rattle.segments.proofs.numbers_between.Goals as goal
 
 pub cubics_before-j-requires : goal.cubics_before-j-requires

@@ -1,7 +1,6 @@
 -- The loops of `segments::numbers_between`.
-use borrow.Author.Rules.{rules}
 use Prim.Native.Nat.{◌-◌}
-use Rattle.segments.proofs.Ways.{Tally, tallies, tally_more}
+use Rattle.segments.proofs.Ways.{Tally}
 use Rattle.segments.proofs.numbers_between.Given as goal
 
 abbrev pub invariant-loop-j : goal.invariant-loop-j

@@ -1,12 +1,7 @@
 -- `shape::write_ellipse` meets its contract. Assumes nothing.
 use Rattle.shape.proofs.Ways.{ellipse_loops, ellipse_six}
 use borrow.Author.Rules.{rules}
-use mathlib.Core.Path.{◌≡◌}
-use Prim.Native.Nat.{◌-◌}
-use Rattle.command.proofs.Writes.{WritingAt, code_room}
-use Rattle.ellipse.specs.Ellipse.{ellipse_in}
-use Rattle.shape.specs.declared.Shape.TheVariants.{Ellipse}
-use Rattle.shape.specs.Shape.{shape_commands}
+use Rattle.command.proofs.Writes.{code_room}
 use Rattle.shape.proofs.write_ellipse.Goals as goal
 
 pub loop-k-init : goal.loop-k-init

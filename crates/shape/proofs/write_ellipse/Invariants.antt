@@ -1,9 +1,7 @@
 -- The loops of `shape::write_ellipse`.
-use Rattle.shape.proofs.Ways.{ellipse_loops, ellipse_six}
-use borrow.Author.Rules.{rules}
 use mathlib.Core.Path.{◌≡◌}
 use Prim.Native.Nat.{◌-◌}
-use Rattle.command.proofs.Writes.{WritingAt, code_room}
+use Rattle.command.proofs.Writes.{WritingAt}
 use Rattle.ellipse.specs.Ellipse.{ellipse_in}
 use Rattle.shape.specs.declared.Shape.TheVariants.{Ellipse}
 use Rattle.shape.specs.Shape.{shape_commands}

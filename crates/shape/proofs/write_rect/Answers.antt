@@ -1,12 +1,7 @@
 -- `shape::write_rect` meets its contract. Assumes nothing.
 use Rattle.shape.proofs.Ways.{rect_loops, round_ten}
 use borrow.Author.Rules.{rules}
-use mathlib.Core.Path.{◌≡◌}
-use Prim.Native.Nat.{◌-◌}
-use Rattle.command.proofs.Writes.{WritingAt, code_room}
-use Rattle.rect.specs.Rect.{plain_rect, round_rect}
-use Rattle.shape.specs.declared.Shape.TheVariants.{Rect}
-use Rattle.shape.specs.Shape.{shape_commands}
+use Rattle.command.proofs.Writes.{code_room}
 use Rattle.shape.proofs.write_rect.Goals as goal
 
 pub loop-k-init : goal.loop-k-init

@@ -1,9 +1,7 @@
 -- The loops of `shape::write_rect`.
-use Rattle.shape.proofs.Ways.{rect_loops, round_ten}
-use borrow.Author.Rules.{rules}
 use mathlib.Core.Path.{◌≡◌}
 use Prim.Native.Nat.{◌-◌}
-use Rattle.command.proofs.Writes.{WritingAt, code_room}
+use Rattle.command.proofs.Writes.{WritingAt}
 use Rattle.rect.specs.Rect.{plain_rect, round_rect}
 use Rattle.shape.specs.declared.Shape.TheVariants.{Rect}
 use Rattle.shape.specs.Shape.{shape_commands}

@@ -1,7 +1,6 @@
 -- `sine::from_0` meets its contract. Assumes nothing.
 use mathlib.Core.Path.{ap, ◌∙◌}
 use native.Mathlib.Nat.{zero-add}
-use borrow.Author.Rules.{rules}
 use Rattle.sine.specs.Table.{sines, entry}
 use Rattle.sine.proofs.Ways.{row_entry}
 use Rattle.sine.proofs.from_0.Goals as goal

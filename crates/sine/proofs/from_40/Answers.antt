@@ -1,5 +1,4 @@
 -- `sine::from_40` meets its contract. Assumes nothing.
-use borrow.Author.Rules.{rules}
 use Rattle.sine.specs.Table.{sines}
 use Rattle.sine.proofs.Ways.{row_entry}
 use Rattle.sine.proofs.from_40.Goals as goal

@@ -1,5 +1,4 @@
 -- `sine::from_80` meets its contract. Assumes nothing.
-use borrow.Author.Rules.{rules}
 use Rattle.sine.specs.Table.{sines}
 use Rattle.sine.proofs.Ways.{row_entry}
 use Rattle.sine.proofs.from_80.Goals as goal

@@ -1,5 +1,4 @@
 -- `whole::down_at` meets its contract. Assumes nothing.
-use borrow.Author.Rules.{rules}
 use Rattle.whole.proofs.Ways.{down_shift, down_past}
 use Rattle.whole.proofs.down_at.Goals as goal
 

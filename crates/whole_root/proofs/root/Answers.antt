@@ -1,5 +1,4 @@
 -- `whole_root::root` meets its contract. Assumes nothing.
-use Prim.Native.Nat.{◌≤◌, ◌<◌, ◌*◌, ◌-◌, ◌^◌}
 use Rattle.whole_root.proofs.Ways.{ways}
 use borrow.Author.Rules.{rules}
 use Rattle.whole_root.proofs.root.Goals as goal

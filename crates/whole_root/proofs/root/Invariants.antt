@@ -1,7 +1,5 @@
 -- The loops of `whole_root::root`.
 use Prim.Native.Nat.{◌≤◌, ◌<◌, ◌*◌, ◌-◌, ◌^◌}
-use Rattle.whole_root.proofs.Ways.{ways}
-use borrow.Author.Rules.{rules}
 use Rattle.whole_root.proofs.root.Given as goal
 
 abbrev pub invariant-loop-s : goal.invariant-loop-s
