@@ -12,7 +12,7 @@ use Rattle.command.specs.declared.PathCommand.TheVariants.{Line, Cubic, Close}
 use Rattle.command.specs.Commands.{coordinates_of, numbers_of}
 use Rattle.command.proofs.Lists.{numbers_append}
 use Rattle.path.specs.declared.BezierVertex.{BezierVertex}
-use Rattle.path.specs.Path.{vertices_of, out_x, out_y, in_x, in_y, is_line, bezier_segment, bezier_segments, bezier_path, path_commands}
+use Rattle.path.specs.Path.{vertices_of, vertices_from, out_x, out_y, in_x, in_y, is_line, bezier_segment, bezier_segments, bezier_path, path_commands}
 use Rattle.ieee.specs.Single.{AllSingle, Single}
 use Rattle.ieee.proofs.Single.{add_single}
 use Rattle.ieee.proofs.Each.{each_append}
@@ -58,6 +58,16 @@ unfolding vertices_of
 vertices_ends zero v at = tt
 vertices_ends (suc n) v at =
     ((at 0 (omega arith), at 1 (omega arith)), vertices_ends n (drop 6 v) (λ i h. rw (get_or-drop 6 v i nan) (at (6 + i) (omega arith))))
+
+-- the ends of numbered vertices, and their closed path
+from_ends : (vertex : ℕ → BezierVertex) (k n : ℕ) → ((i : ℕ) → i < k + n → Single (vertex i).x × Single (vertex i).y) → AllEnds (vertices_from vertex k n)
+unfolding vertices_from
+from_ends vertex k zero at = tt
+from_ends vertex k (suc n) at = (at k (omega arith), from_ends vertex (suc k) n (λ i h. at i (omega arith)))
+
+pub round_single : (vertex : ℕ → BezierVertex) (count : ℕ) → ((k : ℕ) → k < count → Single (vertex k).x × Single (vertex k).y)
+    → AllSingle (numbers_of (bezier_path true (vertices_from vertex 0 count)))
+round_single vertex count at = path_single true (vertices_from vertex 0 count) (from_ends vertex 0 count (λ k h. at k (omega arith)))
 
 pub commands_single : (closed count : ℕ) (v : List Float) → ((i : ℕ) → i < 6 * count → Single (get_or v i nan)) → AllSingle (numbers_of (path_commands closed v count))
 unfolding path_commands

@@ -24,6 +24,11 @@ unfoldable pub vertices_of : ℕ → List Float → List BezierVertex
 vertices_of zero v = []
 vertices_of (suc n) v = vertex_at v 0 ∷ vertices_of n (drop 6 v)
 
+-- the vertices numbered from k on, n of them
+unfoldable pub vertices_from : (ℕ → BezierVertex) → ℕ → ℕ → List BezierVertex
+vertices_from vertex k zero = []
+vertices_from vertex k (suc n) = vertex k ∷ vertices_from vertex (suc k) n
+
 -- the f32 nearest to 1e-4, `EPSILON` of `approx_eq_vec2`
 abbrev pub linear_tolerance : Float
 linear_tolerance = ten_thousandth32

@@ -1,0 +1,10 @@
+-- `polystar::perimeter_of` meets its contract. Assumes nothing.
+use borrow.Author.Rules.{rules}
+use Rattle.polystar.proofs.Ways.{stars}
+use Rattle.polystar.proofs.perimeter_of.Goals as goal
+
+pub returns-then-is_star : goal.returns-then-is_star
+returns-then-is_star c = search (rules, stars)
+
+pub returns-else-is_star : goal.returns-else-is_star
+returns-else-is_star c = search (rules, stars)

@@ -1,0 +1,7 @@
+-- `polystar::polystar_of` meets its contract. Assumes nothing.
+use borrow.Author.Rules.{rules}
+use Rattle.polystar.proofs.Ways.{whole_stars}
+use Rattle.polystar.proofs.polystar_of.Goals as goal
+
+pub returns : goal.returns
+returns c = search (rules, whole_stars)
