@@ -7,3 +7,4 @@ pub mod Single
 pub mod Segment
 pub mod Between
 pub mod Ways
+pub mod Along

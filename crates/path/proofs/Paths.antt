@@ -60,7 +60,7 @@ segments_at a (b ∷ bs) zero d h = refl
 segments_at a (b ∷ bs) (suc j) d h = segments_at b bs j d (le_of_suc-le-suc h)
 
 -- the last of a vertex and those after it
-pub last_of : BezierVertex → List BezierVertex → BezierVertex
+unfoldable pub last_of : BezierVertex → List BezierVertex → BezierVertex
 last_of a [] = a
 last_of a (b ∷ bs) = last_of b bs
 

@@ -20,7 +20,7 @@ fn segment_code(line: bool) -> u8
 
 // Writes a segment which two numbers or more are to follow, with no branch on what it is: its control points, and then its end,
 // which of a line stands in the place of the first. The second is left after it, where what follows will stand.
-fn put_followed(
+pub fn put_followed(
     a: BezierVertex,
     b: BezierVertex,
     codes: &mut [u8],
@@ -42,7 +42,7 @@ fn put_followed(
 }
 
 // Writes a command, and no other place.
-fn put(command: PathCommand, codes: &mut [u8], i: usize, numbers: &mut [f32], at: usize) -> usize
+pub fn put(command: PathCommand, codes: &mut [u8], i: usize, numbers: &mut [f32], at: usize) -> usize
     requires i_in_bounds { i < length codes.old }
     requires command_in_bounds { at + length (coordinates_of command) ≤ length numbers.old }
     ensures value { result ≡ at + length (coordinates_of command) }
@@ -126,7 +126,7 @@ fn write_open(
 }
 
 // Writes the segment from the last vertex back to the first, and the close.
-fn write_back(
+pub fn write_back(
     last: BezierVertex,
     first: BezierVertex,
     codes: &mut [u8],

@@ -1,2 +1,3 @@
 -- What the proofs of `segments` cite.
 pub mod Ways
+pub mod Tally

@@ -1,0 +1,2 @@
+-- A word of writing's own way.
+pub mod Left
