@@ -2,10 +2,26 @@
 // A line of theirs is a word of at most eight letters and numbers of eight hexadecimal digits, one blank before each.
 #![tactic(auto)]
 
-ghost use Rattle.std.specs.Prelude.{◌<◌, ◌≤◌, length};
+ghost use Rattle.std.specs.Prelude.{◌<◌, ◌≤◌, length, IfOk};
 
 use command::{Counts, Refusal};
-use libc::STDOUT_FILENO;
+use std::io;
+use std::io::{Read, Write};
+
+// Reads until the buffer is full or the input ends, and gives how many bytes it put at the buffer's start.
+pub fn read_full(input: &mut impl Read, text: &mut [u8]) -> io::Result<usize>
+    ensures { IfOk result (λ n. n ≤ length text.new) }
+{
+    let mut done = 0;
+    while done < text.len() {
+        let n = input.read(&mut text[done..])?;
+        if n == 0 {
+            break;
+        }
+        done += n;
+    }
+    Ok(done)
+}
 
 // How many line ends a byte is.
 fn line_ends(b: u8) -> usize
@@ -186,77 +202,70 @@ pub fn wide(x: u32) -> u64 {
     x as u64
 }
 
-fn wide_size(x: usize) -> u64 {
-    x as u64
-}
-
 // Writes the number's pattern, or `nan`.
-pub fn print(x: f32) {
+pub fn print(out: &mut impl Write, x: f32) -> io::Result<()> {
     if x == x {
-        io::print_hex(STDOUT_FILENO, wide(f32::to_bits(x)), 8);
+        write!(out, "{:08x}", f32::to_bits(x))
     } else {
-        io::write_all(STDOUT_FILENO, b"nan");
+        write!(out, "nan")
     }
 }
 
 // Writes the patterns of a list, with a blank before each.
-pub fn print_list(list: &[f32]) {
-    for i in 0..list.len() {
-        io::write_all(STDOUT_FILENO, b" ");
-        print(list[i]);
+pub fn print_list(out: &mut impl Write, list: &[f32]) -> io::Result<()> {
+    for x in list {
+        write!(out, " ")?;
+        print(out, *x)?;
     }
+    Ok(())
 }
 
-pub fn print_decimal(x: usize) {
-    io::print_decimal(STDOUT_FILENO, wide_size(x));
+pub fn print_decimal(out: &mut impl Write, x: usize) -> io::Result<()> {
+    write!(out, "{x}")
 }
 
-pub fn print_refusal(refusal: Refusal) {
-    io::write_all(STDOUT_FILENO, b"refused ");
-    io::print_decimal(STDOUT_FILENO, wide(command::refusal_number(refusal)));
-    io::write_all(STDOUT_FILENO, b"\n");
-}
-
-fn wide_byte(x: u8) -> u64 {
-    x as u64
+pub fn print_refusal(out: &mut impl Write, refusal: Refusal) -> io::Result<()> {
+    let number = command::refusal_number(refusal);
+    writeln!(out, "refused {number}")
 }
 
 // Writes what a buffer of codes holds, on a line.
-fn print_codes(codes: &[u8]) {
-    io::write_all(STDOUT_FILENO, b"codes");
-    for i in 0..codes.len() {
-        io::write_all(STDOUT_FILENO, b" ");
-        io::print_hex(STDOUT_FILENO, wide_byte(codes[i]), 2);
+fn print_codes(out: &mut impl Write, codes: &[u8]) -> io::Result<()> {
+    write!(out, "codes")?;
+    for code in codes {
+        write!(out, " {code:02x}")?;
     }
-    io::write_all(STDOUT_FILENO, b"\n");
+    writeln!(out)
 }
 
 // Writes what a buffer of numbers holds, on a line.
-fn print_numbers(numbers: &[f32]) {
-    io::write_all(STDOUT_FILENO, b"numbers");
-    print_list(numbers);
-    io::write_all(STDOUT_FILENO, b"\n");
+fn print_numbers(out: &mut impl Write, numbers: &[f32]) -> io::Result<()> {
+    write!(out, "numbers")?;
+    print_list(out, numbers)?;
+    writeln!(out)
 }
 
-fn print_pair(word: &[u8], n: usize, m: usize) {
-    io::write_all(STDOUT_FILENO, word);
-    print_decimal(n);
-    io::write_all(STDOUT_FILENO, b" ");
-    print_decimal(m);
-    io::write_all(STDOUT_FILENO, b"\n");
+fn print_pair(out: &mut impl Write, word: &[u8], n: usize, m: usize) -> io::Result<()> {
+    out.write_all(word)?;
+    writeln!(out, "{n} {m}")
 }
 
 // Writes the answer of a call on a line, with a word before two counts.
-pub fn print_counts(word: &[u8], counts: Counts) {
+pub fn print_counts(out: &mut impl Write, word: &[u8], counts: Counts) -> io::Result<()> {
     match counts {
-        Counts::Refused(refusal) => print_refusal(refusal),
-        Counts::Of(n, m) => print_pair(word, n, m),
+        Counts::Refused(refusal) => print_refusal(out, refusal),
+        Counts::Of(n, m) => print_pair(out, word, n, m),
     }
 }
 
 // Writes the answer of a call that fills two buffers, and what they hold after it.
-pub fn print_drawn(drawn: Counts, codes: &[u8], numbers: &[f32]) {
-    print_counts(b"written ", drawn);
-    print_codes(codes);
-    print_numbers(numbers);
+pub fn print_drawn(
+    out: &mut impl Write,
+    drawn: Counts,
+    codes: &[u8],
+    numbers: &[f32],
+) -> io::Result<()> {
+    print_counts(out, b"written ", drawn)?;
+    print_codes(out, codes)?;
+    print_numbers(out, numbers)
 }

@@ -6,9 +6,16 @@
 ghost use Rattle.std.specs.Prelude.{◌<◌};
 
 use command::Counts;
-use libc::{STDIN_FILENO, STDOUT_FILENO};
+use std::io;
+use std::io::{BufWriter, Write};
 
-fn draw_path(line: &[u8], vertices: &[f32], codes: &mut [u8], numbers: &mut [f32]) {
+fn draw_path(
+    out: &mut impl Write,
+    line: &[u8],
+    vertices: &[f32],
+    codes: &mut [u8],
+    numbers: &mut [f32],
+) -> io::Result<()> {
     let count = pattern_text::size(pattern_text::field(line, 1));
     let drawn = draw::draw_path(
         pattern_text::field(line, 0),
@@ -17,7 +24,7 @@ fn draw_path(line: &[u8], vertices: &[f32], codes: &mut [u8], numbers: &mut [f32
         codes,
         numbers,
     );
-    pattern_text::print_drawn(drawn, codes, numbers);
+    pattern_text::print_drawn(out, drawn, codes, numbers)
 }
 
 // The entries of an item's row.
@@ -33,26 +40,45 @@ fn row_of(line: &[u8]) -> [u32; 6] {
 }
 
 // Draws a row of which the first entries are lent, so many as the line says.
-fn draw_row(line: &[u8], row: &[u32], items: &[f32], codes: &mut [u8], numbers: &mut [f32]) {
+fn draw_row(
+    out: &mut impl Write,
+    line: &[u8],
+    row: &[u32],
+    items: &[f32],
+    codes: &mut [u8],
+    numbers: &mut [f32],
+) -> io::Result<()> {
     let entries = pattern_text::lent(line, 0, row.len());
     let drawn = draw::draw_item(&row[0..entries], items, codes, numbers);
-    pattern_text::print_drawn(drawn, codes, numbers);
+    pattern_text::print_drawn(out, drawn, codes, numbers)
 }
 
-fn draw_item(line: &[u8], items: &[f32], codes: &mut [u8], numbers: &mut [f32]) {
+fn draw_item(
+    out: &mut impl Write,
+    line: &[u8],
+    items: &[f32],
+    codes: &mut [u8],
+    numbers: &mut [f32],
+) -> io::Result<()> {
     let row = row_of(line);
-    draw_row(line, &row, items, codes, numbers);
+    draw_row(out, line, &row, items, codes, numbers)
 }
 
 fn is_item(line: &[u8]) -> bool {
     pattern_text::byte(line, 0) == b'i'
 }
 
-fn draw(line: &[u8], list: &[f32], codes: &mut [u8], numbers: &mut [f32]) {
+fn draw(
+    out: &mut impl Write,
+    line: &[u8],
+    list: &[f32],
+    codes: &mut [u8],
+    numbers: &mut [f32],
+) -> io::Result<()> {
     if is_item(line) {
-        draw_item(line, list, codes, numbers);
+        draw_item(out, line, list, codes, numbers)
     } else {
-        draw_path(line, list, codes, numbers);
+        draw_path(out, line, list, codes, numbers)
     }
 }
 
@@ -65,20 +91,32 @@ fn lengths_place(line: &[u8]) -> usize
 }
 
 // Draws what a line says with the first places of a list and of two buffers, so many as the line says.
-fn lend(line: &[u8], list: &mut [f32], codes: &mut [u8], numbers: &mut [f32]) {
+fn lend(
+    out: &mut impl Write,
+    line: &[u8],
+    list: &mut [f32],
+    codes: &mut [u8],
+    numbers: &mut [f32],
+) -> io::Result<()> {
     let place = lengths_place(line);
     pattern_text::fill(list, line, place + 3);
     let lent = pattern_text::lent(line, place, list.len());
     let n = pattern_text::lent(line, place + 1, codes.len());
     let m = pattern_text::lent(line, place + 2, numbers.len());
-    draw(line, &list[0..lent], &mut codes[0..n], &mut numbers[0..m]);
+    draw(
+        out,
+        line,
+        &list[0..lent],
+        &mut codes[0..n],
+        &mut numbers[0..m],
+    )
 }
 
-fn draw_line(line: &[u8]) {
+fn draw_line(out: &mut impl Write, line: &[u8]) -> io::Result<()> {
     let mut list = [0.0; 6150];
     let mut codes = [0xee; 1030];
     let mut numbers = [-77.25; 6150];
-    lend(line, &mut list, &mut codes, &mut numbers);
+    lend(out, line, &mut list, &mut codes, &mut numbers)
 }
 
 fn path_need(line: &[u8], vertices: &[f32]) -> Counts {
@@ -106,32 +144,34 @@ fn need_of(line: &[u8], list: &[f32]) -> Counts {
 }
 
 // Tells the need of what a line says with the first places of a list, so many as the line says.
-fn tell(line: &[u8], list: &mut [f32]) {
+fn tell(out: &mut impl Write, line: &[u8], list: &mut [f32]) -> io::Result<()> {
     let place = lengths_place(line);
     pattern_text::fill(list, line, place + 1);
     let lent = pattern_text::lent(line, place, list.len());
-    pattern_text::print_counts(b"needed ", need_of(line, &list[0..lent]));
+    pattern_text::print_counts(out, b"needed ", need_of(line, &list[0..lent]))
 }
 
-fn need_line(line: &[u8]) {
+fn need_line(out: &mut impl Write, line: &[u8]) -> io::Result<()> {
     let mut list = [0.0; 6150];
-    tell(line, &mut list);
+    tell(out, line, &mut list)
 }
 
-fn answer(line: &[u8]) {
-    io::write_all(STDOUT_FILENO, line);
-    io::write_all(STDOUT_FILENO, b"\n");
+fn answer(out: &mut impl Write, line: &[u8]) -> io::Result<()> {
+    out.write_all(line)?;
+    writeln!(out)?;
     if pattern_text::is_need(line) {
-        need_line(pattern_text::needing(line));
+        need_line(out, pattern_text::needing(line))
     } else {
-        draw_line(line);
+        draw_line(out, line)
     }
 }
 
-fn main() {
+fn main(rt: HostRuntime) -> io::Result<()> {
     let mut text = [0; 262144];
-    io::read_full(STDIN_FILENO, &mut text);
+    pattern_text::read_full(&mut rt.stdin(), &mut text)?;
+    let mut out = BufWriter::new(rt.alloc(), rt.stdout())?;
     for k in 0..pattern_text::line_count(&text) {
-        answer(pattern_text::line(&text, k));
+        answer(&mut out, pattern_text::line(&text, k))?;
     }
+    out.flush()
 }

@@ -4,7 +4,8 @@
 
 ghost use Rattle.std.specs.Prelude.{◌<◌};
 
-use libc::{STDIN_FILENO, STDOUT_FILENO};
+use std::io;
+use std::io::{BufWriter, Write};
 
 // The result of the call in a line. A line that names no operation has a NaN.
 fn result(line: &[u8]) -> f32 {
@@ -58,17 +59,19 @@ fn operand(line: &[u8], at: usize) -> f32
     pattern_text::number(pattern_text::pattern(line, at))
 }
 
-fn answer(line: &[u8]) {
-    io::write_all(STDOUT_FILENO, line);
-    io::write_all(STDOUT_FILENO, b" = ");
-    pattern_text::print(result(line));
-    io::write_all(STDOUT_FILENO, b"\n");
+fn answer(out: &mut impl Write, line: &[u8]) -> io::Result<()> {
+    out.write_all(line)?;
+    write!(out, " = ")?;
+    pattern_text::print(out, result(line))?;
+    writeln!(out)
 }
 
-fn main() {
+fn main(rt: HostRuntime) -> io::Result<()> {
     let mut text = [0; 262144];
-    io::read_full(STDIN_FILENO, &mut text);
+    pattern_text::read_full(&mut rt.stdin(), &mut text)?;
+    let mut out = BufWriter::new(rt.alloc(), rt.stdout())?;
     for k in 0..pattern_text::line_count(&text) {
-        answer(pattern_text::line(&text, k));
+        answer(&mut out, pattern_text::line(&text, k))?;
     }
+    out.flush()
 }

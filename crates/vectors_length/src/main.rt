@@ -6,43 +6,36 @@
 ghost use Rattle.std.specs.Prelude.{◌<◌};
 
 use length::Measured;
-use libc::{STDIN_FILENO, STDOUT_FILENO};
 use reach::Reply;
+use std::io;
+use std::io::{BufWriter, Write};
 
-fn print_length(x: f32) {
-    io::write_all(STDOUT_FILENO, b"length ");
-    pattern_text::print(x);
-    io::write_all(STDOUT_FILENO, b"\n");
+fn print_length(out: &mut impl Write, x: f32) -> io::Result<()> {
+    write!(out, "length ")?;
+    pattern_text::print(out, x)?;
+    writeln!(out)
 }
 
-fn print_measured(measured: Measured) {
+fn print_measured(out: &mut impl Write, measured: Measured) -> io::Result<()> {
     match measured {
-        Measured::Refused(refusal) => pattern_text::print_refusal(refusal),
-        Measured::Length(x) => print_length(x),
+        Measured::Refused(refusal) => pattern_text::print_refusal(out, refusal),
+        Measured::Length(x) => print_length(out, x),
     }
 }
 
 // Writes the number that is handed back beside a part, how many numbers the part has, and the part.
-fn print_part(fault: u32, part: &[f32]) {
-    io::write_all(STDOUT_FILENO, b"fault ");
-    pattern_text::print_decimal(pattern_text::size(fault));
-    io::write_all(STDOUT_FILENO, b" part ");
-    pattern_text::print_decimal(part.len());
-    pattern_text::print_list(part);
-    io::write_all(STDOUT_FILENO, b"\n");
+fn print_part(out: &mut impl Write, fault: u32, part: &[f32]) -> io::Result<()> {
+    let count = part.len();
+    write!(out, "fault {fault} part {count}")?;
+    pattern_text::print_list(out, part)?;
+    writeln!(out)
 }
 
-fn print_read(word: &[u8], n: usize) {
-    io::write_all(STDOUT_FILENO, word);
-    pattern_text::print_decimal(n);
-    io::write_all(STDOUT_FILENO, b"\n");
-}
-
-fn print_reply(reply: Reply) {
+fn print_reply(out: &mut impl Write, reply: Reply) -> io::Result<()> {
     match reply {
-        Reply::Refused(refusal) => pattern_text::print_refusal(refusal),
-        Reply::Yes(n) => print_read(b"yes ", n),
-        Reply::No(n) => print_read(b"no ", n),
+        Reply::Refused(refusal) => pattern_text::print_refusal(out, refusal),
+        Reply::Yes(n) => writeln!(out, "yes {n}"),
+        Reply::No(n) => writeln!(out, "no {n}"),
     }
 }
 
@@ -54,17 +47,17 @@ fn is_reach(line: &[u8]) -> bool {
     pattern_text::byte(line, 0) == b'r'
 }
 
-fn call(line: &[u8], codes: &[u8], numbers: &[f32]) {
+fn call(out: &mut impl Write, line: &[u8], codes: &[u8], numbers: &[f32]) -> io::Result<()> {
     if is_command(line) {
         let k = pattern_text::size(pattern_text::field(line, 0));
-        pattern_text::print_counts(b"numbers ", judge::find_command(codes, numbers, k));
+        pattern_text::print_counts(out, b"numbers ", judge::find_command(codes, numbers, k))?;
         let fault = judge::command_fault(codes, numbers, k);
-        print_part(fault, judge::command_part(codes, numbers, k));
+        print_part(out, fault, judge::command_part(codes, numbers, k))
     } else if is_reach(line) {
         let least = pattern_text::number(pattern_text::field(line, 0));
-        print_reply(reach::length_reaches(codes, numbers, least));
+        print_reply(out, reach::length_reaches(codes, numbers, least))
     } else {
-        print_measured(length::path_length(codes, numbers));
+        print_measured(out, length::path_length(codes, numbers))
     }
 }
 
@@ -80,31 +73,43 @@ fn lengths_place(line: &[u8]) -> usize
 }
 
 // Calls what a line says with two lists, which it fills.
-fn fill_and_call(line: &[u8], codes: &mut [u8], numbers: &mut [f32]) {
+fn fill_and_call(
+    out: &mut impl Write,
+    line: &[u8],
+    codes: &mut [u8],
+    numbers: &mut [f32],
+) -> io::Result<()> {
     pattern_text::fill_path(codes, numbers, line, lengths_place(line) + 2);
-    call(line, codes, numbers);
+    call(out, line, codes, numbers)
 }
 
 // Lends the first places of two lists, so many as the line says.
-fn lend(line: &[u8], codes: &mut [u8], numbers: &mut [f32]) {
+fn lend(
+    out: &mut impl Write,
+    line: &[u8],
+    codes: &mut [u8],
+    numbers: &mut [f32],
+) -> io::Result<()> {
     let place = lengths_place(line);
     let n = pattern_text::lent(line, place, codes.len());
     let m = pattern_text::lent(line, place + 1, numbers.len());
-    fill_and_call(line, &mut codes[0..n], &mut numbers[0..m]);
+    fill_and_call(out, line, &mut codes[0..n], &mut numbers[0..m])
 }
 
-fn answer(line: &[u8]) {
+fn answer(out: &mut impl Write, line: &[u8]) -> io::Result<()> {
     let mut codes = [0; 262150];
     let mut numbers = [0.0; 6150];
-    io::write_all(STDOUT_FILENO, line);
-    io::write_all(STDOUT_FILENO, b"\n");
-    lend(line, &mut codes, &mut numbers);
+    out.write_all(line)?;
+    writeln!(out)?;
+    lend(out, line, &mut codes, &mut numbers)
 }
 
-fn main() {
+fn main(rt: HostRuntime) -> io::Result<()> {
     let mut text = [0; 262144];
-    io::read_full(STDIN_FILENO, &mut text);
+    pattern_text::read_full(&mut rt.stdin(), &mut text)?;
+    let mut out = BufWriter::new(rt.alloc(), rt.stdout())?;
     for k in 0..pattern_text::line_count(&text) {
-        answer(pattern_text::line(&text, k));
+        answer(&mut out, pattern_text::line(&text, k))?;
     }
+    out.flush()
 }

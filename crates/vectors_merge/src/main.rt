@@ -5,7 +5,8 @@
 
 ghost use Rattle.std.specs.Prelude.{◌<◌};
 
-use libc::{STDIN_FILENO, STDOUT_FILENO};
+use std::io;
+use std::io::{BufWriter, Write};
 
 // An entry of a row, which is written as one number.
 fn entry(row: u32, i: usize) -> u32 {
@@ -54,14 +55,28 @@ fn write_rows(rows: &mut [u32], line: &[u8]) {
     change_entry(rows, line);
 }
 
-fn merge(line: &[u8], rows: &[u32], items: &[f32], codes: &mut [u8], numbers: &mut [f32]) {
+fn merge(
+    out: &mut impl Write,
+    line: &[u8],
+    rows: &[u32],
+    items: &[f32],
+    codes: &mut [u8],
+    numbers: &mut [f32],
+) -> io::Result<()> {
     let count = pattern_text::size(pattern_text::field(line, 0));
     let drawn = join::draw_merge(rows, count, items, codes, numbers);
-    pattern_text::print_drawn(drawn, codes, numbers);
+    pattern_text::print_drawn(out, drawn, codes, numbers)
 }
 
 // Merges what a line says with the first places of two lists and of two buffers, so many as the line says.
-fn lend(line: &[u8], rows: &mut [u32], list: &mut [f32], codes: &mut [u8], numbers: &mut [f32]) {
+fn lend(
+    out: &mut impl Write,
+    line: &[u8],
+    rows: &mut [u32],
+    list: &mut [f32],
+    codes: &mut [u8],
+    numbers: &mut [f32],
+) -> io::Result<()> {
     let place = given(line) + 5;
     write_rows(rows, line);
     pattern_text::fill(list, line, place + 3);
@@ -70,24 +85,25 @@ fn lend(line: &[u8], rows: &mut [u32], list: &mut [f32], codes: &mut [u8], numbe
     let n = pattern_text::lent(line, place + 1, codes.len());
     let m = pattern_text::lent(line, place + 2, numbers.len());
     merge(
+        out,
         line,
         &rows[0..entries],
         &list[0..lent],
         &mut codes[0..n],
         &mut numbers[0..m],
-    );
+    )
 }
 
-fn merge_line(line: &[u8]) {
+fn merge_line(out: &mut impl Write, line: &[u8]) -> io::Result<()> {
     let mut rows = [0; 1548];
     let mut list = [0.0; 6150];
     let mut codes = [0xee; 1030];
     let mut numbers = [-77.25; 6150];
-    lend(line, &mut rows, &mut list, &mut codes, &mut numbers);
+    lend(out, line, &mut rows, &mut list, &mut codes, &mut numbers)
 }
 
 // Tells the need of what a line says with the first places of two lists, so many as the line says.
-fn tell(line: &[u8], rows: &mut [u32], list: &mut [f32]) {
+fn tell(out: &mut impl Write, line: &[u8], rows: &mut [u32], list: &mut [f32]) -> io::Result<()> {
     let place = given(line) + 5;
     write_rows(rows, line);
     pattern_text::fill(list, line, place + 1);
@@ -95,29 +111,31 @@ fn tell(line: &[u8], rows: &mut [u32], list: &mut [f32]) {
     let entries = pattern_text::lent(line, 1, rows.len());
     let lent = pattern_text::lent(line, place, list.len());
     let need = join::merge_need(&rows[0..entries], count, &list[0..lent]);
-    pattern_text::print_counts(b"needed ", need);
+    pattern_text::print_counts(out, b"needed ", need)
 }
 
-fn need_line(line: &[u8]) {
+fn need_line(out: &mut impl Write, line: &[u8]) -> io::Result<()> {
     let mut rows = [0; 1548];
     let mut list = [0.0; 6150];
-    tell(line, &mut rows, &mut list);
+    tell(out, line, &mut rows, &mut list)
 }
 
-fn answer(line: &[u8]) {
-    io::write_all(STDOUT_FILENO, line);
-    io::write_all(STDOUT_FILENO, b"\n");
+fn answer(out: &mut impl Write, line: &[u8]) -> io::Result<()> {
+    out.write_all(line)?;
+    writeln!(out)?;
     if pattern_text::is_need(line) {
-        need_line(pattern_text::needing(line));
+        need_line(out, pattern_text::needing(line))
     } else {
-        merge_line(line);
+        merge_line(out, line)
     }
 }
 
-fn main() {
+fn main(rt: HostRuntime) -> io::Result<()> {
     let mut text = [0; 262144];
-    io::read_full(STDIN_FILENO, &mut text);
+    pattern_text::read_full(&mut rt.stdin(), &mut text)?;
+    let mut out = BufWriter::new(rt.alloc(), rt.stdout())?;
     for k in 0..pattern_text::line_count(&text) {
-        answer(pattern_text::line(&text, k));
+        answer(&mut out, pattern_text::line(&text, k))?;
     }
+    out.flush()
 }

@@ -5,8 +5,9 @@
 ghost use Rattle.std.specs.Prelude.{◌<◌, ◌≤◌};
 
 use copies::Written;
-use libc::{STDIN_FILENO, STDOUT_FILENO};
 use repeater::RepeaterStyle;
+use std::io;
+use std::io::{BufWriter, Write};
 
 // The repeater of a line's mode and of its eleven numbers from a place on.
 fn repeater_at(line: &[u8], first: usize) -> RepeaterStyle
@@ -21,41 +22,38 @@ fn repeater_at(line: &[u8], first: usize) -> RepeaterStyle
 }
 
 // Writes the numbers of an order, with a blank before each.
-fn print_order(order: &[u32]) {
-    for i in 0..order.len() {
-        io::write_all(STDOUT_FILENO, b" ");
-        io::print_hex(STDOUT_FILENO, pattern_text::wide(order[i]), 8);
+fn print_order(out: &mut impl Write, order: &[u32]) -> io::Result<()> {
+    for number in order {
+        write!(out, " {number:08x}")?;
     }
+    Ok(())
 }
 
-fn print_count(n: usize) {
-    io::write_all(STDOUT_FILENO, b"written ");
-    pattern_text::print_decimal(n);
-    io::write_all(STDOUT_FILENO, b"\n");
-}
-
-fn print_written(written: Written) {
+fn print_written(out: &mut impl Write, written: Written) -> io::Result<()> {
     match written {
-        Written::Refused(refusal) => pattern_text::print_refusal(refusal),
-        Written::Count(n) => print_count(n),
+        Written::Refused(refusal) => pattern_text::print_refusal(out, refusal),
+        Written::Count(n) => writeln!(out, "written {n}"),
     }
 }
 
 // Answers with an order, and writes what the buffer then holds.
-fn answer_order(line: &[u8], buffer: &mut [u32]) {
-    print_written(copies::copy_order(repeater_at(line, 2), buffer));
-    io::write_all(STDOUT_FILENO, b"places");
-    print_order(buffer);
-    io::write_all(STDOUT_FILENO, b"\n");
+fn answer_order(out: &mut impl Write, line: &[u8], buffer: &mut [u32]) -> io::Result<()> {
+    print_written(out, copies::copy_order(repeater_at(line, 2), buffer))?;
+    write!(out, "places")?;
+    print_order(out, buffer)?;
+    writeln!(out)
 }
 
 // Answers with a copy's numbers, and writes what the buffer then holds.
-fn answer_copy(line: &[u8], buffer: &mut [f32]) {
+fn answer_copy(out: &mut impl Write, line: &[u8], buffer: &mut [f32]) -> io::Result<()> {
     let copy = pattern_text::size(pattern_text::field(line, 1));
-    print_written(copies::copy_transform(repeater_at(line, 3), copy, buffer));
-    io::write_all(STDOUT_FILENO, b"places");
-    pattern_text::print_list(buffer);
-    io::write_all(STDOUT_FILENO, b"\n");
+    print_written(
+        out,
+        copies::copy_transform(repeater_at(line, 3), copy, buffer),
+    )?;
+    write!(out, "places")?;
+    pattern_text::print_list(out, buffer)?;
+    writeln!(out)
 }
 
 // A repeater of two copies that turns and does nothing else.
@@ -71,10 +69,10 @@ fn turning(rotation: f32) -> RepeaterStyle {
 }
 
 // Writes the numbers a, b, c and d of copy 1 that is turned, or what their places hold where it is refused.
-fn print_turn(rotation: f32) {
+fn print_turn(out: &mut impl Write, rotation: f32) -> io::Result<()> {
     let mut numbers = [-77.25; 7];
     copies::copy_transform(turning(rotation), 1, &mut numbers);
-    pattern_text::print_list(&numbers[0..4]);
+    pattern_text::print_list(out, &numbers[0..4])
 }
 
 // How many rotations a line has, or the most where that is more.
@@ -86,43 +84,45 @@ fn turn_count(line: &[u8]) -> usize
 }
 
 // Answers with the numbers of a copy for each rotation of a line.
-fn answer_turns(line: &[u8]) {
-    io::write_all(STDOUT_FILENO, b"places");
+fn answer_turns(out: &mut impl Write, line: &[u8]) -> io::Result<()> {
+    write!(out, "places")?;
     for i in 0..turn_count(line) {
-        print_turn(pattern_text::number(pattern_text::field(line, i)));
+        print_turn(out, pattern_text::number(pattern_text::field(line, i)))?;
     }
-    io::write_all(STDOUT_FILENO, b"\n");
+    writeln!(out)
 }
 
 // Lends the first places of a list, so many as the line says.
-fn lend_order(line: &[u8], buffer: &mut [u32]) {
+fn lend_order(out: &mut impl Write, line: &[u8], buffer: &mut [u32]) -> io::Result<()> {
     let n = pattern_text::lent(line, 1, buffer.len());
-    answer_order(line, &mut buffer[0..n]);
+    answer_order(out, line, &mut buffer[0..n])
 }
 
-fn lend_numbers(line: &[u8], buffer: &mut [f32]) {
+fn lend_numbers(out: &mut impl Write, line: &[u8], buffer: &mut [f32]) -> io::Result<()> {
     let n = pattern_text::lent(line, 2, buffer.len());
-    answer_copy(line, &mut buffer[0..n]);
+    answer_copy(out, line, &mut buffer[0..n])
 }
 
-fn answer(line: &[u8]) {
+fn answer(out: &mut impl Write, line: &[u8]) -> io::Result<()> {
     let mut order = [0xeeee_eeee; 4100];
     let mut numbers = [-77.25; 16];
-    io::write_all(STDOUT_FILENO, line);
-    io::write_all(STDOUT_FILENO, b"\n");
+    out.write_all(line)?;
+    writeln!(out)?;
     if pattern_text::byte(line, 0) == b'o' {
-        lend_order(line, &mut order);
+        lend_order(out, line, &mut order)
     } else if pattern_text::byte(line, 0) == b't' {
-        answer_turns(line);
+        answer_turns(out, line)
     } else {
-        lend_numbers(line, &mut numbers);
+        lend_numbers(out, line, &mut numbers)
     }
 }
 
-fn main() {
+fn main(rt: HostRuntime) -> io::Result<()> {
     let mut text = [0; 262144];
-    io::read_full(STDIN_FILENO, &mut text);
+    pattern_text::read_full(&mut rt.stdin(), &mut text)?;
+    let mut out = BufWriter::new(rt.alloc(), rt.stdout())?;
     for k in 0..pattern_text::line_count(&text) {
-        answer(pattern_text::line(&text, k));
+        answer(&mut out, pattern_text::line(&text, k))?;
     }
+    out.flush()
 }
