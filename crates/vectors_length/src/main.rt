@@ -31,11 +31,17 @@ fn print_part(out: &mut impl Write, fault: u32, part: &[f32]) -> io::Result<()> 
     writeln!(out)
 }
 
+fn print_read(out: &mut impl Write, word: &[u8], n: usize) -> io::Result<()> {
+    out.write_all(word)?;
+    pattern_text::print_decimal(out, n)?;
+    writeln!(out)
+}
+
 fn print_reply(out: &mut impl Write, reply: Reply) -> io::Result<()> {
     match reply {
         Reply::Refused(refusal) => pattern_text::print_refusal(out, refusal),
-        Reply::Yes(n) => writeln!(out, "yes {n}"),
-        Reply::No(n) => writeln!(out, "no {n}"),
+        Reply::Yes(n) => print_read(out, b"yes ", n),
+        Reply::No(n) => print_read(out, b"no ", n),
     }
 }
 

@@ -29,10 +29,14 @@ fn print_order(out: &mut impl Write, order: &[u32]) -> io::Result<()> {
     Ok(())
 }
 
+fn print_count(out: &mut impl Write, n: usize) -> io::Result<()> {
+    writeln!(out, "written {n}")
+}
+
 fn print_written(out: &mut impl Write, written: Written) -> io::Result<()> {
     match written {
         Written::Refused(refusal) => pattern_text::print_refusal(out, refusal),
-        Written::Count(n) => writeln!(out, "written {n}"),
+        Written::Count(n) => print_count(out, n),
     }
 }
 
