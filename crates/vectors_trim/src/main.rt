@@ -4,7 +4,7 @@
 
 use cut::{Shown, Trimmed};
 use std::io;
-use std::io::{BufWriter, Write};
+use std::io::Write;
 use trim::{Ranges, TrimStyle};
 
 fn trim_of(line: &[u8]) -> TrimStyle {
@@ -97,9 +97,9 @@ fn answer(out: &mut impl Write, line: &[u8]) -> io::Result<()> {
 fn main(rt: HostRuntime) -> io::Result<()> {
     let mut text = [0; 262144];
     pattern_text::read_full(&mut rt.stdin(), &mut text)?;
-    let mut out = BufWriter::new(rt.alloc(), rt.stdout())?;
+    let mut out = rt.stdout();
     for k in 0..pattern_text::line_count(&text) {
         answer(&mut out, pattern_text::line(&text, k))?;
     }
-    out.flush()
+    Ok(())
 }
