@@ -18,7 +18,7 @@ use Rattle.command.specs.Outcomes.{Outcome, accepted, mapped, Check, checked}
 use Rattle.command.specs.Enlarged.{Twins, DrawingTwin}
 use Rattle.command.proofs.Enlarged.{twins_weaken, drawing_refused, drawing_accepted, drawing_checked}
 use Rattle.path.specs.Path.{path_commands}
-use Rattle.path.proofs.Enlarged.{path_twins}
+use Rattle.path.proofs.Multiplied.{path_twins}
 use Rattle.rect.proofs.Enlarged.{rect_twins}
 use Rattle.ellipse.proofs.Enlarged.{ellipse_twins}
 use Rattle.shape.specs.declared.Shape.{Shape}

@@ -15,7 +15,7 @@ use Rattle.command.specs.Commands.{numbers_of, command_limit}
 use Rattle.command.specs.Outcomes.{Outcome, refused, accepted, mapped, list_of}
 use Rattle.command.proofs.Outcomes.{checks_hold}
 use Rattle.path.specs.Path.{path_commands}
-use Rattle.path.proofs.Sound.{path_sound}
+use Rattle.path.proofs.Accepted.{path_sound}
 use Rattle.rect.proofs.Sound.{rect_sound}
 use Rattle.ellipse.proofs.Sound.{ellipse_sound}
 use Rattle.shape.specs.declared.Shape.{Shape}

@@ -24,7 +24,8 @@ use Rattle.command.specs.Commands.{coordinates_of, numbers_of, command_limit}
 use Rattle.command.proofs.Bounds.{bounded_take, bounded_command, within→commands}
 use Rattle.point.specs.declared.Point.{Point}
 use Rattle.curve.specs.Curve.{distance, quad_length_after, cubic_length_after, quad_length, cubic_length}
-use Rattle.curve.proofs.Rising.{Inside, distance_bounded, distance_plus, quad_bounded, quad_plus, quad_rise, cubic_bounded, cubic_plus, cubic_rise}
+use Rattle.curve.proofs.Rising.{Inside, distance_bounded, distance_plus}
+use Rattle.curve.proofs.Lengths.{quad_bounded, quad_plus, quad_rise, cubic_bounded, cubic_plus, cubic_rise}
 use Rattle.measure.specs.declared.Place.{Place}
 use Rattle.measure.specs.declared.Place.TheVariants.{Nowhere, At}
 use Rattle.measure.specs.declared.Pen.{Pen}

@@ -20,15 +20,15 @@ use Rattle.path.specs.declared.BezierVertex.{BezierVertex}
 use Rattle.path.specs.Path.{vertex_at, vertices_of, is_line, out_x, out_y, in_x, in_y, bezier_segment, bezier_segments, bezier_path, path_commands}
 
 -- ---- vertices whose six numbers are at most n
-record VertexBounded (n : ℕ) (a : BezierVertex) : Type 0 where
-  x_bounded : Bounded n a.x
-  y_bounded : Bounded n a.y
-  ix_bounded : Bounded n a.ix
-  iy_bounded : Bounded n a.iy
-  ox_bounded : Bounded n a.ox
-  oy_bounded : Bounded n a.oy
+pub record VertexBounded (n : ℕ) (a : BezierVertex) : Type 0 where
+  pub x_bounded : Bounded n a.x
+  pub y_bounded : Bounded n a.y
+  pub ix_bounded : Bounded n a.ix
+  pub iy_bounded : Bounded n a.iy
+  pub ox_bounded : Bounded n a.ox
+  pub oy_bounded : Bounded n a.oy
 
-abbrev VerticesBounded : ℕ → List BezierVertex → Type 0
+abbrev pub VerticesBounded : ℕ → List BezierVertex → Type 0
 VerticesBounded n [] = Unit {0}
 VerticesBounded n (a ∷ vs) = VertexBounded n a × VerticesBounded n vs
 
@@ -36,7 +36,7 @@ add_last : (n : ℕ) (vs : List BezierVertex) (b : BezierVertex) → VerticesBou
 add_last n [] b A B = (B, tt)
 add_last n (a ∷ vs) b A B = (A.0, add_last n vs b A.1 B)
 
-vertices_bounded : (n count : ℕ) (v : List Float) → ((i : ℕ) → i < 6 * count → Bounded n (get_or v i nan)) → VerticesBounded n (vertices_of count v)
+pub vertices_bounded : (n count : ℕ) (v : List Float) → ((i : ℕ) → i < 6 * count → Bounded n (get_or v i nan)) → VerticesBounded n (vertices_of count v)
 unfolding vertices_of
 vertices_bounded n zero v b = tt
 vertices_bounded n (suc count) v b = (first, vertices_bounded n count (drop 6 v) rest)
@@ -80,7 +80,7 @@ module _ (n c : ℕ) (W : n ≤ c) (R : Reach binary32 (n + n) c) where
   segments_bounded a (b ∷ bs) A B =
       each_append (Bounded c) (coordinates_of (bezier_segment a b)) (numbers_of (bezier_segments b bs)) (segment_bounded a b A B.0) (segments_bounded b bs B.0 B.1)
 
-  bezier_bounded : (closed : Bool) (vs : List BezierVertex) → VerticesBounded n vs → AllBounded c (numbers_of (bezier_path closed vs))
+  pub bezier_bounded : (closed : Bool) (vs : List BezierVertex) → VerticesBounded n vs → AllBounded c (numbers_of (bezier_path closed vs))
   unfolding bezier_path
   bezier_bounded closed [] A = tt
   bezier_bounded closed (a ∷ []) A =
@@ -91,18 +91,3 @@ module _ (n c : ℕ) (W : n ≤ c) (R : Reach binary32 (n + n) c) where
   bezier_bounded true (a ∷ (b ∷ bs)) A =
       let back = segments_bounded a ((b ∷ bs) ++ a ∷ []) A.0 (add_last n (b ∷ bs) a A.1 A.0) in
       (wide a.x A.0.x_bounded, (wide a.y A.0.y_bounded, bounded_append c (bezier_segments a ((b ∷ bs) ++ a ∷ [])) (Close ∷ []) back tt))
-
-  pub path_bounded : (closed count : ℕ) (v : List Float) → AllBounded n (take (6 * count) v) → 6 * count ≤ length v → AllBounded c (numbers_of (path_commands closed v count))
-  unfolding path_commands
-  path_bounded closed count v A h = bezier_bounded (eqb closed 1) (vertices_of count v) (vertices_bounded n count v (all_bounded_at n (6 * count) v A h))
-
--- ---- the two limits
-limit_value : HasValue (of_bits binary32 0x49800000) false (2 ^ 20) 1
-unfolding of_bits
-limit_value = (refl, refl)
-
-pub path_sound : (closed count : ℕ) (v : List Float) → all_within (of_bits binary32 0x49800000) (take (6 * count) v) ≡ true → 6 * count ≤ length v
-    → all_within command_limit (numbers_of (path_commands closed v count)) ≡ true
-path_sound closed count v h l =
-    commands→within (path_commands closed v count)
-    (path_bounded (2 ^ 20) (2 ^ 22) (lit≤ tt) (reach_pow binary32 (2 ^ 20 + 2 ^ 20) 22 (lit≤ tt) (lit≤ tt)) closed count v (all_within→bounded (2 ^ 20) (of_bits binary32 0x49800000) (take (6 * count) v) limit_value h) l)
