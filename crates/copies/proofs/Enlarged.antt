@@ -24,7 +24,8 @@ use Rattle.command.proofs.Outcomes.{checks_relate}
 use Rattle.matrix.specs.declared.Matrix.{Matrix}
 use Rattle.repeater.specs.declared.RepeaterStyle.{RepeaterStyle}
 use Rattle.repeater.specs.Repeater.{most_copies, most_offset, copy_count, copy_transform, copy_opacity}
-use Rattle.repeater.proofs.Enlarged.{RepeaterTwin, Moved, copy_moved, count_same, opacity_same}
+use Rattle.repeater.proofs.Enlarged.{RepeaterTwin, Moved}
+use Rattle.repeater.proofs.Moved.{copy_moved, count_same, opacity_same}
 use Rattle.copies.specs.Enlarged.{moved_numbers, moved_answer}
 use Rattle.copies.specs.Order.{order_of, copy_order}
 use Rattle.copies.specs.Calls.{repeater_numbers, repeater_limit, has_too_many, repeater_checks}

@@ -1,25 +1,18 @@
 -- The running length inside a curve never falls, and is finite, since its chords are. Assumes nothing.
 use mathlib.Core.Path.{◌≡◌, sym, subst}
 use mathlib.Core.Logic.{inl, inr}
-use Prim.Native.Nat.{ℕ, zero, suc, ◌+◌, ◌*◌, ◌^◌, ◌≤◌, ◌<◌, zero-le}
-use native.Mathlib.Nat.{le_refl, le_trans, le_of_eq, le_of_suc-le-suc, eq-or-lt_of_le, zero-lt-suc}
+use Prim.Native.Nat.{ℕ, zero, suc, ◌+◌, ◌^◌, ◌≤◌, zero-le}
+use native.Mathlib.Nat.{le_refl, le_trans, le_of_suc-le-suc, eq-or-lt_of_le}
 use native.Mathlib.Omega.{arith}
-use lib.IntN.{pos}
-use lib.Dec.{T, lit≤, lit<}
-use lib.Pow.{pow-add, pow_mono}
-use lib.Ieee.{Float, div, le, fits, round, units, size, span, climb, odd, of_int, of_bits, of_fields, binary32}
-use lib.Ieee.Fits.{add-fits}
-use lib.Ieee.Order.{round_mono}
-use lib.Ieee.Positive.{positive}
-use Rattle.ieee.specs.Literal.{zero32, one32}
-use Rattle.ieee.specs.Operators.{◌⊖◌, ◌⊗◌}
+use lib.Dec.{T}
+use lib.Ieee.{le, binary32}
+use Rattle.ieee.specs.Literal.{zero32}
 use Rattle.ieee.specs.Limit.{Bounded}
-use Rattle.ieee.specs.Fused.{fma}
 use Rattle.ieee.proofs.Order as Order
-use Rattle.ieee.proofs.Monotone.{add_ge, div_le}
-use Rattle.ieee.proofs.Bounds.{Reach, reach_pow, reach_whole, reach_absorb, zero_bounded, bounded_finite, bounded_number, bounded_between, bounded_weaken, add_bounded, sub_bounded, mul_bounded, fma_bounded, hypot_bounded, hypot_plus}
+use Rattle.ieee.proofs.Monotone.{add_ge}
+use Rattle.ieee.proofs.Bounds.{bounded_finite, bounded_number}
 use Rattle.point.specs.declared.Point.{Point}
-use Rattle.curve.specs.Curve.{two32, three32, squared, cubed, distance, quad_at, eval_quad, cubic_at, eval_cubic, step_of, quad_point, cubic_point, chords, quad_length_after, cubic_length_after}
+use Rattle.curve.specs.Curve.{distance, quad_point, cubic_point, chords, quad_length_after, cubic_length_after}
 use Rattle.curve.proofs.Rising.{Inside, distance_plus, chords_fits, chords_bounded, quad_inside, cubic_inside}
 
 -- ---- chords between points at most 2 ^ b

@@ -1,9 +1,8 @@
 -- Chords between points at most 2 ^ b are finite and not negative; their sum is finite however many there are, since a large sum absorbs what is much
 -- smaller. So are the points of a curve. Assumes nothing.
 use mathlib.Core.Path.{◌≡◌, sym, subst}
-use mathlib.Core.Logic.{inl, inr}
 use Prim.Native.Nat.{ℕ, zero, suc, ◌+◌, ◌*◌, ◌^◌, ◌≤◌, ◌<◌, zero-le}
-use native.Mathlib.Nat.{le_refl, le_trans, le_of_eq, le_of_suc-le-suc, eq-or-lt_of_le, zero-lt-suc}
+use native.Mathlib.Nat.{le_refl, le_trans, le_of_eq, zero-lt-suc}
 use native.Mathlib.Omega.{arith}
 use lib.IntN.{pos}
 use lib.Dec.{T, lit≤, lit<}
@@ -16,11 +15,10 @@ use Rattle.ieee.specs.Literal.{zero32, one32}
 use Rattle.ieee.specs.Operators.{◌⊖◌, ◌⊗◌}
 use Rattle.ieee.specs.Limit.{Bounded}
 use Rattle.ieee.specs.Fused.{fma}
-use Rattle.ieee.proofs.Order as Order
-use Rattle.ieee.proofs.Monotone.{add_ge, div_le}
-use Rattle.ieee.proofs.Bounds.{Reach, reach_pow, reach_whole, reach_absorb, zero_bounded, bounded_finite, bounded_number, bounded_between, bounded_weaken, add_bounded, sub_bounded, mul_bounded, fma_bounded, hypot_bounded, hypot_plus}
+use Rattle.ieee.proofs.Monotone.{div_le}
+use Rattle.ieee.proofs.Bounds.{Reach, reach_pow, reach_whole, reach_absorb, zero_bounded, bounded_between, bounded_weaken, add_bounded, sub_bounded, mul_bounded, fma_bounded, hypot_bounded, hypot_plus}
 use Rattle.point.specs.declared.Point.{Point}
-use Rattle.curve.specs.Curve.{two32, three32, squared, cubed, distance, quad_at, eval_quad, cubic_at, eval_cubic, step_of, quad_point, cubic_point, chords, quad_length_after, cubic_length_after}
+use Rattle.curve.specs.Curve.{two32, three32, squared, cubed, distance, quad_at, eval_quad, cubic_at, eval_cubic, step_of, quad_point, cubic_point, chords}
 
 -- both coordinates are at most n
 pub record Inside (n : ℕ) (p : Point) : Type 0 where

@@ -42,7 +42,8 @@ use Rattle.cut.proofs.Enlarged.{trim_ends, cut_twins, cuts_numbers}
 use Rattle.repeater.specs.declared.RepeaterStyle.{RepeaterStyle}
 use Rattle.repeater.specs.Repeater.{copy_count, copy_transform, copy_opacity}
 use Rattle.repeater.proofs.Single.{copy_single}
-use Rattle.repeater.proofs.Enlarged.{RepeaterTwin, copy_moved}
+use Rattle.repeater.proofs.Enlarged.{RepeaterTwin}
+use Rattle.repeater.proofs.Moved.{copy_moved}
 use Rattle.copies.specs.Calls.{repeater_checks, copy_numbers, all_finite, copy_answer, transform_answer}
 use Rattle.copies.proofs.Ways.{offset_within, count_few}
 use Rattle.enlargement.specs.Plates.{Plate, OfVertices, OfRow, OfMerge, OnGrid, GridAt, Made, of_nothing, of_vertices, of_row, of_merge}

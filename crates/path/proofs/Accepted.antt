@@ -1,22 +1,17 @@
 -- The path of a list within the limit of shapes has numbers within the limit of commands. Assumes nothing.
 use mathlib.Core.Path.{◌≡◌, refl}
-use mathlib.Core.Bool.{Bool, true, false, cond}
-use mathlib.Core.List.{List, [], ◌∷◌, ◌++◌}
-use Prim.Native.Nat.{ℕ, zero, suc, ◌+◌, ◌*◌, ◌^◌, ◌≤◌, ◌<◌}
-use native.Mathlib.Omega.{arith}
+use mathlib.Core.Bool.{true, false}
+use mathlib.Core.List.{List}
+use Prim.Native.Nat.{ℕ, ◌+◌, ◌*◌, ◌^◌, ◌≤◌}
 use lib.Dec.{eqb, lit≤}
-use lib.Ieee.{Float, nan, add, of_bits, binary32}
+use lib.Ieee.{Float, of_bits, binary32}
 use lib.Ieee.Exact.{HasValue}
-use lib.ListN.{length, get_or, take, drop}
-use lib.Seq.{get_or-drop}
-use Rattle.ieee.specs.Limit.{all_within, Bounded, AllBounded}
-use Rattle.ieee.proofs.Each.{each_append}
-use Rattle.ieee.proofs.Bounds.{Reach, reach_pow, bounded_weaken, add_bounded, all_bounded_at, all_within→bounded}
-use Rattle.command.specs.declared.PathCommand.TheVariants.{Line, Cubic, Close}
-use Rattle.command.specs.Commands.{coordinates_of, numbers_of, command_limit}
-use Rattle.command.proofs.Bounds.{bounded_append, commands→within}
-use Rattle.path.specs.declared.BezierVertex.{BezierVertex}
-use Rattle.path.specs.Path.{vertex_at, vertices_of, is_line, out_x, out_y, in_x, in_y, bezier_segment, bezier_segments, bezier_path, path_commands}
+use lib.ListN.{length, take}
+use Rattle.ieee.specs.Limit.{all_within, AllBounded}
+use Rattle.ieee.proofs.Bounds.{Reach, reach_pow, all_bounded_at, all_within→bounded}
+use Rattle.command.specs.Commands.{numbers_of, command_limit}
+use Rattle.command.proofs.Bounds.{commands→within}
+use Rattle.path.specs.Path.{vertices_of, path_commands}
 use Rattle.path.proofs.Sound.{vertices_bounded, bezier_bounded}
 
 module _ (n c : ℕ) (W : n ≤ c) (R : Reach binary32 (n + n) c) where

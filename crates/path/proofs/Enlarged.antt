@@ -1,24 +1,21 @@
 -- Vertices on the grid of 1 / 1024 and their multiples by a power of two, and the test for a line between them. Assumes nothing.
 use mathlib.Core.Path.{◌≡◌, refl}
-use mathlib.Core.Bool.{Bool, true, false, ◌&&◌}
+use mathlib.Core.Bool.{false}
 use mathlib.Core.List.{List, [], ◌∷◌, ◌++◌}
 use Prim.Native.Nat.{ℕ, zero, suc, ◌+◌, ◌*◌, ◌^◌, ◌≤◌, ◌<◌}
 use native.Mathlib.Nat.{le_refl}
 use native.Mathlib.Omega.{arith}
-use lib.Dec.{eqb, lit≤, lit<}
+use lib.Dec.{lit≤, lit<}
 use lib.Pow.{pow_pos}
 use lib.ListN.{get_or, drop}
 use lib.Seq.{get_or-drop}
-use lib.Ieee.{Float, nan, add, sub, of_bits, binary32}
+use lib.Ieee.{Float, nan, sub, of_bits, binary32}
 use lib.Ieee.Exact.{HasValue}
 use Rattle.ieee.specs.Grid.{Twin}
-use Rattle.ieee.proofs.Twins.{twin_weaken, twin_add, twin_sub}
+use Rattle.ieee.proofs.Twins.{twin_weaken, twin_sub}
 use Rattle.ieee.proofs.Limits.{twin_small}
-use Rattle.command.specs.declared.PathCommand.TheVariants.{Move}
-use Rattle.command.specs.Enlarged.{CommandTwin, Twins}
-use Rattle.command.proofs.Enlarged.{twin_close, twin_move, twin_line, twin_cubic, twin_choice, twins_none, twins_cons, twins_append}
 use Rattle.path.specs.declared.BezierVertex.{BezierVertex}
-use Rattle.path.specs.Path.{vertex_at, vertices_of, linear_tolerance, approx_eq, bezier_segment, bezier_segments, bezier_path, path_commands}
+use Rattle.path.specs.Path.{vertex_at, vertices_of, linear_tolerance, approx_eq}
 
 -- ---- vertices
 -- the six numbers of a vertex and of its multiple

@@ -1,24 +1,18 @@
 -- The path of a vertex list on the grid of 1 / 1024, enlarged by a power of two: the same commands, with every number multiplied. Assumes nothing.
-use mathlib.Core.Path.{◌≡◌, refl}
 use mathlib.Core.Bool.{Bool, true, false, ◌&&◌}
-use mathlib.Core.List.{List, [], ◌∷◌, ◌++◌}
-use Prim.Native.Nat.{ℕ, zero, suc, ◌+◌, ◌*◌, ◌^◌, ◌≤◌, ◌<◌}
-use native.Mathlib.Nat.{le_refl}
+use mathlib.Core.List.{List}
+use Prim.Native.Nat.{ℕ, ◌*◌, ◌≤◌, ◌<◌}
 use native.Mathlib.Omega.{arith}
-use lib.Dec.{eqb, lit≤, lit<}
-use lib.Pow.{pow_pos}
-use lib.ListN.{get_or, drop}
-use lib.Seq.{get_or-drop}
-use lib.Ieee.{Float, nan, add, sub, of_bits, binary32}
-use lib.Ieee.Exact.{HasValue}
+use lib.Dec.{eqb, lit≤}
+use lib.ListN.{get_or}
+use lib.Ieee.{Float, nan, add, binary32}
 use Rattle.ieee.specs.Grid.{Twin}
-use Rattle.ieee.proofs.Twins.{twin_weaken, twin_add, twin_sub}
-use Rattle.ieee.proofs.Limits.{twin_small}
+use Rattle.ieee.proofs.Twins.{twin_add}
 use Rattle.command.specs.declared.PathCommand.TheVariants.{Move}
 use Rattle.command.specs.Enlarged.{CommandTwin, Twins}
 use Rattle.command.proofs.Enlarged.{twin_close, twin_move, twin_line, twin_cubic, twin_choice, twins_none, twins_cons, twins_append}
 use Rattle.path.specs.declared.BezierVertex.{BezierVertex}
-use Rattle.path.specs.Path.{vertex_at, vertices_of, linear_tolerance, approx_eq, bezier_segment, bezier_segments, bezier_path, path_commands}
+use Rattle.path.specs.Path.{bezier_segment, bezier_segments, bezier_path, path_commands}
 use Rattle.path.proofs.Enlarged.{VertexTwin, VertexTwins, none, more, add_last, vertices_twins, wide, approx_same}
 
 module _ {k : ℕ} (K : k ≤ 6) where

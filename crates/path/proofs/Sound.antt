@@ -1,23 +1,20 @@
 -- The path of a vertex list is a sound command list: where the numbers of the vertices are at most 2 ^ 20, those of the commands are at most 2 ^ 22. A control point is a sum of
 -- two, so 2 ^ 21 would do. Assumes nothing.
-use mathlib.Core.Path.{◌≡◌, refl}
 use mathlib.Core.Bool.{Bool, true, false, cond}
 use mathlib.Core.List.{List, [], ◌∷◌, ◌++◌}
-use Prim.Native.Nat.{ℕ, zero, suc, ◌+◌, ◌*◌, ◌^◌, ◌≤◌, ◌<◌}
+use Prim.Native.Nat.{ℕ, zero, suc, ◌+◌, ◌*◌, ◌≤◌, ◌<◌}
 use native.Mathlib.Omega.{arith}
-use lib.Dec.{eqb, lit≤}
-use lib.Ieee.{Float, nan, add, of_bits, binary32}
-use lib.Ieee.Exact.{HasValue}
-use lib.ListN.{length, get_or, take, drop}
+use lib.Ieee.{Float, nan, add, binary32}
+use lib.ListN.{get_or, drop}
 use lib.Seq.{get_or-drop}
-use Rattle.ieee.specs.Limit.{all_within, Bounded, AllBounded}
+use Rattle.ieee.specs.Limit.{Bounded, AllBounded}
 use Rattle.ieee.proofs.Each.{each_append}
-use Rattle.ieee.proofs.Bounds.{Reach, reach_pow, bounded_weaken, add_bounded, all_bounded_at, all_within→bounded}
+use Rattle.ieee.proofs.Bounds.{Reach, bounded_weaken, add_bounded}
 use Rattle.command.specs.declared.PathCommand.TheVariants.{Line, Cubic, Close}
-use Rattle.command.specs.Commands.{coordinates_of, numbers_of, command_limit}
-use Rattle.command.proofs.Bounds.{bounded_append, commands→within}
+use Rattle.command.specs.Commands.{coordinates_of, numbers_of}
+use Rattle.command.proofs.Bounds.{bounded_append}
 use Rattle.path.specs.declared.BezierVertex.{BezierVertex}
-use Rattle.path.specs.Path.{vertex_at, vertices_of, is_line, out_x, out_y, in_x, in_y, bezier_segment, bezier_segments, bezier_path, path_commands}
+use Rattle.path.specs.Path.{vertex_at, vertices_of, is_line, out_x, out_y, in_x, in_y, bezier_segment, bezier_segments, bezier_path}
 
 -- ---- vertices whose six numbers are at most n
 pub record VertexBounded (n : ℕ) (a : BezierVertex) : Type 0 where

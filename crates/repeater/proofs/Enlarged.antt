@@ -8,17 +8,17 @@ use native.Mathlib.Nat.{le_of_lt, add-zero, zero-mul, one-mul, mul_comm, mul_ass
 use native.Mathlib.Omega.{arith}
 use borrow.Author.Tests.{ltb-true}
 use lib.Dec.{T, lit≤, lit<}
-use lib.IntN.{ℤ, pos}
+use lib.IntN.{ℤ}
 use lib.Pow.{pow_pos}
 use lib.Ieee.{Float, nan, inf, fin, up, down, unlike, binary32, fits, span, climb, size, odd, units, round}
-use lib.Ieee.{neg, sum, add, sub, mul, div, lt, eq, is_nan, of_int, of_fields, of_bits}
+use lib.Ieee.{neg, sum, add, sub, mul, div, lt, eq, is_nan, of_fields, of_bits}
 use lib.Ieee.Exact.{HasValue}
-use lib.Ieee.Fits.{sub-fits, down_pos}
+use lib.Ieee.Fits.{down_pos}
 use lib.Ieee.Scale.{finite}
 use Rattle.ieee.specs.Literal.{zero32, one32, hundred32, epsilon32}
 use Rattle.ieee.specs.Operators.{◌⊕◌, ◌⊖◌, ◌⊗◌}
-use Rattle.ieee.specs.Sign.{abs, is_zero}
-use Rattle.ieee.specs.Limit.{within, Bounded}
+use Rattle.ieee.specs.Sign.{is_zero}
+use Rattle.ieee.specs.Limit.{Bounded}
 use Rattle.ieee.specs.Choice.{max}
 use Rattle.ieee.specs.Fused.{fma}
 use Rattle.ieee.specs.Grid.{On, Twin}
@@ -26,20 +26,17 @@ use Rattle.ieee.proofs.Operations.{mul_swap, fma_at}
 use Rattle.ieee.proofs.Zeros.{level_zero, mul_zero_right}
 use Rattle.ieee.proofs.Value.{value_finite, rescale}
 use Rattle.ieee.proofs.Comparison.{lt_at}
-use Rattle.ieee.proofs.Grid.{weaken, big_on}
+use Rattle.ieee.proofs.Grid.{big_on}
 use Rattle.ieee.proofs.Twins.{zero_twin, twin_weaken, twin_neg, twin_add, twin_add_absorb_right, twin_mul, twin_mul_right}
-use Rattle.ieee.proofs.Bounds.{within→bounded, bounded_weaken, add_bounded, round_bounded, reach_whole}
-use Rattle.count.specs.Count.{count_down, count_up}
 use Rattle.angle.specs.Sixteenths.{turn_of}
 use Rattle.angle.proofs.Reduced.{zero_turn}
 use Rattle.matrix.specs.declared.Matrix.{Matrix}
 use Rattle.matrix.proofs.Ways.{rotate_none}
-use Rattle.repeater.proofs.Part.{part_bounded}
 use Rattle.repeater.proofs.Ways.{step_matrix_is}
 use Rattle.repeater.specs.declared.RepeaterStyle.{RepeaterStyle}
 use Rattle.matrix.specs.Matrix.{identity, concat, pre_translate, pre_scale}
-use Rattle.repeater.specs.Repeater.{least_scale, most_offset, copy_count, opacity_of, copy_opacity}
-use Rattle.repeater.specs.Repeater.{step_scale, direction, step_part, step_matrix, step_transform, steps, iteration_transform, copy_transform}
+use Rattle.repeater.specs.Repeater.{least_scale}
+use Rattle.repeater.specs.Repeater.{step_scale, direction, step_part, step_matrix, step_transform}
 
 -- ---- the two repeaters. What no definition here reads, the mode, is left free
 pub record RepeaterTwin (k : ℕ) (r r' : RepeaterStyle) : Type 0 where
@@ -68,7 +65,7 @@ pub record Moved (k q b : ℕ) (m m' : Matrix) : Type 0 where
   pub e_twin : Twin k q b m.e m'.e
   pub f_twin : Twin k q b m.f m'.f
 
-moved : {k q b : ℕ} {m m' : Matrix} (e e' g g' : Float) → m ≡ translation e g → m' ≡ translation e' g' → Twin k q b e e' → Twin k q b g g' → Moved k q b m m'
+pub moved : {k q b : ℕ} {m m' : Matrix} (e e' g g' : Float) → m ≡ translation e g → m' ≡ translation e' g' → Twin k q b e e' → Twin k q b g g' → Moved k q b m m'
 moved {k} {q} {b} {m} {m'} e e' g g' p p' E G =
     subst (λ (z : Matrix). Moved k q b z m') (sym p)
     (subst (λ (z : Matrix). Moved k q b (translation e g) z) (sym p') (record { shape = refl; shape' = refl; e_twin = E; f_twin = G }))
@@ -82,11 +79,11 @@ one_value : HasValue one32 false (2 ^ 46) (1 * 2 ^ 46)
 unfolding of_bits
 one_value = (refl, refl)
 
-zero_weight : On 0 0 zero32
+pub zero_weight : On 0 0 zero32
 unfolding of_bits
 zero_weight = record { sign = false; count = 0; value = (refl, refl); bound = lit≤ tt }
 
-one_weight : On 0 0 one32
+pub one_weight : On 0 0 one32
 unfolding of_bits
 one_weight = record { sign = false; count = 1; value = (refl, refl); bound = lit≤ tt }
 
@@ -160,7 +157,7 @@ scale_one scale percent inverse e P =
 
 -- ---- the matrices
 -- what a matrix with the first row u, v makes of x and y
-abbrev along : Float → Float → Float → Float → Float → Float
+abbrev pub along : Float → Float → Float → Float → Float → Float
 along u v x y z = u ⊗ x ⊕ v ⊗ y ⊕ z
 
 step_is : (x y ax ay degrees : Float) → turn_of degrees ≡ 0
@@ -188,7 +185,7 @@ part_still rotation percent inverse h P =
     (zero_times (rotation ⊗ direction inverse) percent (value_finite percent P.sign P.count (2 ^ 46) P.value)
     (zero_times rotation (direction inverse) (direction_finite inverse) (level_zero rotation h)))
 
-concat_is : (e g x y : Float) → concat (translation e g) (translation x y) ≡ translation (along one32 zero32 x y e) (along zero32 one32 x y g)
+pub concat_is : (e g x y : Float) → concat (translation e g) (translation x y) ≡ translation (along one32 zero32 x y e) (along zero32 one32 x y g)
 unfolding concat
 concat_is e g x y = λ i. record { a = product_one i; b = product_zero i; c = product_zero' i; d = product_one' i; e = along one32 zero32 x y e; f = along zero32 one32 x y g }
 
@@ -200,11 +197,11 @@ module _ {k : ℕ} (K : k ≤ 6) where
       (subst (λ (z : ℕ). Twin k (q + 0) z (w ⊗ x) (w ⊗ x')) (add-zero b) (twin_mul_right binary32 k q b 0 0 x x' w (omega arith) (omega arith) X W))
 
   -- a running sum: z is at most 2 ^ 43, and stays so
-  absorb : {x x' z z' : Float} → Twin k 56 18 x x' → Twin k 56 43 z z' → Twin k 56 43 (x ⊕ z) (x' ⊕ z')
+  pub absorb : {x x' z z' : Float} → Twin k 56 18 x x' → Twin k 56 43 z z' → Twin k 56 43 (x ⊕ z) (x' ⊕ z')
   absorb {x} {x'} {z} {z'} X Z = twin_add_absorb_right binary32 k 56 43 18 x x' z z' (lit≤ tt) (omega arith) (lit< tt) X Z
 
   module _ {u v : Float} (U : On 0 0 u) (W : On 0 0 v) where
-    pair_twin : {b : ℕ} {x x' y y' : Float} → suc b + k ≤ 127 → Twin k 56 b x x' → Twin k 56 b y y' → Twin k 56 (suc b) (u ⊗ x ⊕ v ⊗ y) (u ⊗ x' ⊕ v ⊗ y')
+    pub pair_twin : {b : ℕ} {x x' y y' : Float} → suc b + k ≤ 127 → Twin k 56 b x x' → Twin k 56 b y y' → Twin k 56 (suc b) (u ⊗ x ⊕ v ⊗ y) (u ⊗ x' ⊕ v ⊗ y')
     pair_twin {b} {x} {x'} {y} {y'} B X Y =
         twin_add binary32 k 56 b (u ⊗ x) (u ⊗ x') (v ⊗ y) (v ⊗ y') (lit≤ tt) B (weigh (lit≤ tt) (omega arith) U X) (weigh (lit≤ tt) (omega arith) W Y)
 
@@ -231,7 +228,7 @@ module _ {k : ℕ} (K : k ≤ 6) where
       (twin_mul binary32 k 10 13 0 0 p p' (direction inverse) (lit≤ tt) (omega arith) X (direction_weight inverse)) P
 
   module _ {r r' : RepeaterStyle} (R : RepeaterTwin k r r') where
-    step_moved : (percent : Float) (inverse : Bool) → On 46 0 percent → Moved k 56 17 (step_transform r percent inverse) (step_transform r' percent inverse)
+    pub step_moved : (percent : Float) (inverse : Bool) → On 46 0 percent → Moved k 56 17 (step_transform r percent inverse) (step_transform r' percent inverse)
     unfolding step_transform
     step_moved percent inverse P =
         let x = step_part r.position.x percent inverse in
@@ -272,7 +269,7 @@ above m e h =
     ∙ h)
 
 -- an f32 above 2 ^ -23 has its last digit at 2 ^ -46 or above
-part_on : (y : Float) → T (fits binary32 y) → Bounded 1 y → lt epsilon32 y ≡ true → On 46 0 y
+pub part_on : (y : Float) → T (fits binary32 y) → Bounded 1 y → lt epsilon32 y ≡ true → On 46 0 y
 part_on nan t Y h = absurd (false≢true (unfold lt of_bits in h))
 part_on (inf s) t Y h = absurd Y
 part_on (fin true m e) t Y h = absurd (false≢true (unfold lt of_bits in h))
@@ -281,71 +278,3 @@ part_on (fin false zero e) t Y h = absurd (none (down e) (0 * up e * 2 ^ 23) (ab
     none : (a b : ℕ) → a < b → b ≡ 0 → ⊥
     none a b l z = omega arith
 part_on (fin false (suc m) e) t Y h = big_on binary32 false m e 23 0 t (le_of_lt (above (suc m) e h)) Y
-
--- ---- a copy
-within_on : (x : Float) → Bounded 8192 x → lt epsilon32 (abs x ⊖ of_int binary32 (pos (count_down (abs x)))) ≡ true → On 46 0 (abs x ⊖ of_int binary32 (pos (count_down (abs x))))
-within_on x X h =
-    let y = of_int binary32 (pos (count_down (abs x))) in
-    part_on (abs x ⊖ y) (sub-fits binary32 (abs x) y) (part_bounded x (bounded_weaken 8192 (2 ^ 20) x (lit≤ tt) X)) h
-
-whole_on : On 46 0 one32
-whole_on = weaken 0 0 46 0 one32 (lit≤ tt) (lit≤ tt) one_weight
-
-identity_moved : (k : ℕ) → Moved k 56 43 identity identity
-identity_moved k = record { shape = refl; shape' = refl; e_twin = zero_twin k 56 43; f_twin = zero_twin k 56 43 }
-
-moved_choice : {k q b : ℕ} {m m' n n' : Matrix} (t : Bool) → (t ≡ true → Moved k q b m m') → Moved k q b n n' → Moved k q b (cond t m n) (cond t m' n')
-moved_choice true M N = M refl
-moved_choice false M N = N
-
-most_value : HasValue most_offset false 4096 1
-unfolding of_bits
-most_value = (refl, refl)
-
--- at most 8,192 steps
-iteration_bounded : (offset : Float) (copy : ℕ) → within most_offset offset ≡ true → copy ≤ 4096 → Bounded 8192 (offset ⊕ of_int binary32 (pos copy))
-unfolding of_int
-iteration_bounded offset copy h l =
-    let most : copy ≤ 4096 * 1 = omega arith in
-    add_bounded binary32 4096 4096 8192 offset (round binary32 false copy 1) (reach_whole binary32 8192 (lit< tt)) (within→bounded 4096 most_offset offset most_value h)
-    (round_bounded binary32 false copy 1 4096 4096 (lit< tt) most (reach_whole binary32 4096 (lit< tt)))
-
-module _ {k : ℕ} (K : k ≤ 6) where
-  concat_moved : {m m' n n' : Matrix} → Moved k 56 43 m m' → Moved k 56 17 n n' → Moved k 56 43 (concat m n) (concat m' n')
-  concat_moved {m} {m'} {n} {n'} M N =
-      moved (along one32 zero32 n.e n.f m.e) (along one32 zero32 n'.e n'.f m'.e) (along zero32 one32 n.e n.f m.f) (along zero32 one32 n'.e n'.f m'.f)
-      ((λ i. concat (M.shape i) (N.shape i)) ∙ concat_is m.e m.f n.e n.f)
-      ((λ i. concat (M.shape' i) (N.shape' i)) ∙ concat_is m'.e m'.f n'.e n'.f)
-      (absorb K (pair_twin K one_weight zero_weight (omega arith) N.e_twin N.f_twin) M.e_twin)
-      (absorb K (pair_twin K zero_weight one_weight (omega arith) N.e_twin N.f_twin) M.f_twin)
-
-  steps_moved : {s s' : Matrix} (n : ℕ) → Moved k 56 17 s s' → Moved k 56 43 (steps n s) (steps n s')
-  unfolding steps
-  steps_moved zero S = identity_moved k
-  steps_moved (suc n) S = concat_moved (steps_moved n S) S
-
-  module _ {r r' : RepeaterStyle} (R : RepeaterTwin k r r') where
-    iteration_moved : (x : Float) → Bounded 8192 x → Moved k 56 43 (iteration_transform r x) (iteration_transform r' x)
-    unfolding iteration_transform
-    iteration_moved x X =
-        let inverse = lt x zero32 in
-        let n = count_down (abs x) in
-        let part = abs x ⊖ of_int binary32 (pos n) in
-        let whole = steps_moved n (step_moved K R one32 inverse whole_on) in
-        moved_choice (within epsilon32 x) (λ e. identity_moved k) (moved_choice (lt epsilon32 part) (λ e. concat_moved whole (step_moved K R part inverse (within_on x X e))) whole)
-
--- The matrices of a copy are translations, and the second's shift is the multiple of the first's.
-pub copy_moved : (k : ℕ) → k ≤ 6 → (r r' : RepeaterStyle) → RepeaterTwin k r r' → within most_offset r.offset ≡ true → (copy : ℕ) → copy ≤ 4096
-    → Moved k 56 43 (copy_transform r copy) (copy_transform r' copy)
-unfolding copy_transform
-copy_moved k K r r' R h copy l =
-    subst (λ (z : Float). Moved k 56 43 (iteration_transform r (r.offset ⊕ of_int binary32 (pos copy))) (iteration_transform r' (z ⊕ of_int binary32 (pos copy)))) (sym R.offset_same)
-    (iteration_moved K R (r.offset ⊕ of_int binary32 (pos copy)) (iteration_bounded r.offset copy h l))
-
-pub count_same : (k : ℕ) (r r' : RepeaterStyle) → RepeaterTwin k r r' → copy_count r' ≡ copy_count r
-unfolding copy_count
-count_same k r r' R = ap count_up R.copies_same
-
-pub opacity_same : (k : ℕ) (r r' : RepeaterStyle) → RepeaterTwin k r r' → (copy : ℕ) → copy_opacity r' copy ≡ copy_opacity r copy
-unfolding copy_opacity
-opacity_same k r r' R copy = λ i. opacity_of (R.start_same i) (R.end_same i) (count_same k r r' R i) copy

@@ -2,6 +2,8 @@
 pub mod Ways
 mod Part
 mod Upright
+mod Quickly
 pub mod Enlarged
+pub mod Moved
 pub mod Single
 mod Cases

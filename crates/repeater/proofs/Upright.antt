@@ -20,13 +20,13 @@ use Rattle.repeater.specs.Repeater.{steps}
 use Rattle.repeater.specs.Upright.{is_upright, upright_concat, upright_steps}
 
 -- ---- the test
-record Upright (m : Matrix) : Type 0 where
-  b_zero : is_zero m.b ≡ true
-  c_zero : is_zero m.c ≡ true
-  a_above : lt zero32 m.a ≡ true
-  d_above : lt zero32 m.d ≡ true
+pub record Upright (m : Matrix) : Type 0 where
+  pub b_zero : is_zero m.b ≡ true
+  pub c_zero : is_zero m.c ≡ true
+  pub a_above : lt zero32 m.a ≡ true
+  pub d_above : lt zero32 m.d ≡ true
 
-upright : (m : Matrix) → is_upright m ≡ true → Upright m
+pub upright : (m : Matrix) → is_upright m ≡ true → Upright m
 unfolding is_upright
 upright m h =
     let b = eq m.b zero32 in
@@ -75,14 +75,14 @@ concat_same m n b_is c_is b_zero c_zero ma md na nd a_plus d_plus =
         (mul_zero_right binary32 m.b n.c (plus_finite m.b (subst Plus (sym b_is) zero_plus)) c_zero))
 
 -- ---- steps
-record Kept (n : ℕ) (step : Matrix) : Type 0 where
-  is : upright_steps n step ≡ steps n step
-  b_is : (upright_steps n step).b ≡ zero32
-  c_is : (upright_steps n step).c ≡ zero32
-  a_plus : Plus (upright_steps n step).a
-  d_plus : Plus (upright_steps n step).d
+pub record Kept (n : ℕ) (step : Matrix) : Type 0 where
+  pub is : upright_steps n step ≡ steps n step
+  pub b_is : (upright_steps n step).b ≡ zero32
+  pub c_is : (upright_steps n step).c ≡ zero32
+  pub a_plus : Plus (upright_steps n step).a
+  pub d_plus : Plus (upright_steps n step).d
 
-kept : (n : ℕ) (step : Matrix) → Upright step → finite (upright_steps n step).a ≡ true → finite (upright_steps n step).d ≡ true → Kept n step
+pub kept : (n : ℕ) (step : Matrix) → Upright step → finite (upright_steps n step).a ≡ true → finite (upright_steps n step).d ≡ true → Kept n step
 unfolding of_bits steps upright_concat upright_steps
 kept zero step S A D = record { is = refl; b_is = refl; c_is = refl; a_plus = refl; d_plus = refl }
 kept (suc n) step S A D =
@@ -101,6 +101,3 @@ kept (suc n) step S A D =
       a_plus = a_plus;
       d_plus = d_plus;
     }
-
-pub upright_steps_lem : (n : ℕ) (step : Matrix) → is_upright step ≡ true → finite (upright_steps n step).a ≡ true → finite (upright_steps n step).d ≡ true → upright_steps n step ≡ steps n step
-upright_steps_lem n step h A D = (kept n step (upright step h) A D).is

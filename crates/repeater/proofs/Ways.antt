@@ -9,7 +9,6 @@ use lib.Dec.{lit≤, lit<}
 use lib.IntN.{pos}
 use lib.Ieee.{Float, nan, inf, fin, binary32, of_bits, of_int, round, div, neg, lt, le, eq}
 use lib.Ieee.Exact.{HasValue}
-use lib.Ieee.Scale.{finite}
 use Rattle.ieee.specs.Literal.{zero32, one32, hundred32, epsilon32, number_limit}
 use Rattle.ieee.specs.Operators.{◌⊕◌, ◌⊖◌, ◌⊗◌}
 use borrow.Author.Tests.{le-leb, lt-leb}
@@ -25,7 +24,6 @@ use Rattle.matrix.specs.Matrix.{identity, concat, pre_translate, pre_scale, pre_
 use Rattle.repeater.specs.Repeater.{least_scale, most_offset, copy_count, opacity_of, copy_opacity}
 use Rattle.repeater.specs.Repeater.{step_scale, direction, step_part, step_matrix, step_transform, steps, iteration_transform, copy_transform}
 use Rattle.repeater.specs.Upright.{is_upright, upright_concat, upright_steps}
-use Rattle.repeater.proofs.Upright.{upright_steps_lem}
 use Rattle.repeater.proofs.Part.{part_bounded, turn_inside, whole_turn_inside}
 
 -- ---- a step
@@ -136,15 +134,6 @@ module _ (step : Matrix) where
 
   pub upright_end : (i n : ℕ) (m : Matrix) → m ≡ upright_steps i step → n ≤ i → i ≤ n → m ≡ upright_steps n step
   upright_end i n m m_is h l = let e : i ≡ n = omega arith in m_is ∙ ap (λ (k : ℕ). upright_steps k step) e
-
-  pub upright_all : (n : ℕ) (m : Matrix) (t p q : Bool) → t ≡ is_upright step → t ≡ true → m ≡ upright_steps n step → p ≡ finite m.a → p ≡ true → q ≡ finite m.d → q ≡ true → m ≡ steps n step
-  upright_all n m t p q t_is t_true m_is p_is p_true q_is q_true =
-      m_is
-      ∙ upright_steps_lem n step (sym t_is ∙ t_true)
-      (ap (λ (k : Matrix). finite k.a) (sym m_is) ∙ sym p_is ∙ p_true)
-      (ap (λ (k : Matrix). finite k.d) (sym m_is) ∙ sym q_is ∙ q_true)
-
-pub ruleset quickly = (not_upright_b, not_upright_c, not_upright_a, upright_d, upright_concat_way, upright_none, upright_next, upright_end, upright_all)
 
 -- ---- iteration_transform
 limit_value : HasValue count_limit false (2 ^ 20) 1

@@ -1,6 +1,6 @@
 -- `repeater::is_upright` meets its contract. Assumes nothing.
 use borrow.Author.Rules.{rules}
-use Rattle.repeater.proofs.Ways.{quickly}
+use Rattle.repeater.proofs.Quickly.{quickly}
 use Rattle.repeater.proofs.is_upright.Goals as goal
 
 pub returns-then-m-3 : goal.returns-then-m-3

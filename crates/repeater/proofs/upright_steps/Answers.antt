@@ -1,6 +1,6 @@
 -- `repeater::upright_steps` meets its contract. Assumes nothing.
 use borrow.Author.Rules.{rules}
-use Rattle.repeater.proofs.Ways.{quickly}
+use Rattle.repeater.proofs.Quickly.{quickly}
 use Rattle.repeater.proofs.upright_steps.Goals as goal
 
 pub identity-transform-requires : goal.identity-transform-requires
