@@ -42,7 +42,13 @@ pub fn put_followed(
 }
 
 // Writes a command, and no other place.
-pub fn put(command: PathCommand, codes: &mut [u8], i: usize, numbers: &mut [f32], at: usize) -> usize
+pub fn put(
+    command: PathCommand,
+    codes: &mut [u8],
+    i: usize,
+    numbers: &mut [f32],
+    at: usize,
+) -> usize
     requires i_in_bounds { i < length codes.old }
     requires command_in_bounds { at + length (coordinates_of command) ≤ length numbers.old }
     ensures value { result ≡ at + length (coordinates_of command) }
