@@ -1,8 +1,8 @@
 -- The merge rule on flat rows is the one on nested items.
---     entries-are       the items at the top of rows are the rows at depth 0, each with whether its children are empty
---     late-are          the flag carried along the rows tells what may follow the merge row
---     no-scan, scanned  what a scan of the rows says of the items
---     ruling-flat       so the rule on items is the rule on rows
+--     entries_are       the items at the top of rows are the rows at depth 0, each with whether its children are empty
+--     late_are          the flag carried along the rows tells what may follow the merge row
+--     no_scan, scanned  what a scan of the rows says of the items
+--     ruling_flat       so the rule on items is the rule on rows
 -- Assumes nothing.
 use mathlib.Core.Path.{◌≡◌, refl, sym, ap, ap₂, ◌∙◌}
 use mathlib.Core.Bool.{Bool, true, false, cond, not, ◌&&◌, ◌||◌, true≢false, and-true, and-false, and-eq-true_iff}

@@ -1,5 +1,5 @@
 -- Flat rows and the nested items that they stand for.
---     children-are   empty groups decided on rows are those of the rule on items
+--     children_are   empty groups decided on rows are those of the rule on items
 --     whole          nested rows read as items lose no row and keep their order
 -- Assumes nothing.
 use mathlib.Core.Path.{◌≡◌, refl, ap, ap₂, ◌∙◌}

@@ -1,5 +1,5 @@
 -- What is promised of a polystar's points, in document 02's words for where they stand. Definitions only.
-use Rattle.std.specs.Prelude.{ℕ, ◌≤◌, ◌<◌, ◌≡◌, cond, List, pos, ◌+ℤ◌, ◌-ℤ◌, Float, get_or}
+use Rattle.std.specs.Prelude.{ℕ, ◌<◌, ◌≡◌, cond, List, pos, ◌+ℤ◌, ◌-ℤ◌, Float, get_or}
 use Rattle.std.specs.Float.{nan}
 use Rattle.angle.specs.Sixteenths.{sixteenths_of, reduced}
 use Rattle.polystar.specs.Polystar.{is_reversed, steps_to, polystar_of, turn_at}

@@ -19,7 +19,7 @@ use Rattle.sine.proofs.Alternate.{above_on, below_on}
 use Rattle.sine.proofs.Horner.{horner, fourth_power, coefs, added_horner, taken_horner}
 use Rattle.sine.proofs.Order.{above_between, below_between}
 
--- k sixteenths of a degree are k·piLow/unit to k·piHigh/unit
+-- k sixteenths of a degree are k·`pi_low`/`unit` to k·`pi_high`/`unit`
 abbrev pub unit : ℕ
 unit = 2880 * pi_unit
 

@@ -9,7 +9,7 @@ use Rattle.command.specs.declared.PathCommand.{PathCommand}
 use Rattle.command.specs.declared.PathCommand.TheVariants.{Move, Close}
 use Rattle.command.specs.Commands.{numbers_of}
 use Rattle.path.specs.declared.BezierVertex.{BezierVertex}
-use Rattle.path.specs.Path.{vertices_from, is_line, bezier_segment, bezier_path}
+use Rattle.path.specs.Path.{vertices_from, is_line, bezier_segment}
 use Rattle.path.specs.Between.{segments_along}
 use Rattle.path.proofs.Along.{from_length, bezier_length}
 use Rattle.path.proofs.Along.{open_is, round_is}

@@ -1,8 +1,6 @@
 -- `star_path::numbers_between` meets its contract. Assumes nothing.
 use borrow.Author.Rules.{rules}
-use Prim.Native.Nat.{◌-◌}
-use Rattle.segments.proofs.Tally.{Tally, tallies, tally_more}
-use Rattle.polystar.specs.Polystar.{point_at}
+use Rattle.segments.proofs.Tally.{tallies, tally_more}
 use Rattle.star_path.proofs.Ways.{counts}
 use Rattle.star_path.proofs.numbers_between.Goals as goal
 

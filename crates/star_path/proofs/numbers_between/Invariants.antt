@@ -1,9 +1,7 @@
 -- The loops of `star_path::numbers_between`.
-use borrow.Author.Rules.{rules}
 use Prim.Native.Nat.{◌-◌}
-use Rattle.segments.proofs.Tally.{Tally, tallies, tally_more}
+use Rattle.segments.proofs.Tally.{Tally}
 use Rattle.polystar.specs.Polystar.{point_at}
-use Rattle.star_path.proofs.Ways.{counts}
 use Rattle.star_path.proofs.numbers_between.Given as goal
 
 abbrev pub invariant-loop-j : goal.invariant-loop-j

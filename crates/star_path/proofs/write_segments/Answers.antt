@@ -1,8 +1,6 @@
 -- `star_path::write_segments` meets its contract. Assumes nothing.
 use borrow.Author.Rules.{rules}
-use Prim.Native.Nat.{◌-◌}
-use Rattle.segment_writer.proofs.Carried.{Carried, carries}
-use Rattle.polystar.specs.Polystar.{point_at}
+use Rattle.segment_writer.proofs.Carried.{carries}
 use Rattle.star_path.proofs.Ways.{segments}
 use Rattle.star_path.proofs.write_segments.Goals as goal
 

@@ -1,9 +1,7 @@
 -- The loops of `star_path::write_segments`.
-use borrow.Author.Rules.{rules}
 use Prim.Native.Nat.{◌-◌}
-use Rattle.segment_writer.proofs.Carried.{Carried, carries}
+use Rattle.segment_writer.proofs.Carried.{Carried}
 use Rattle.polystar.specs.Polystar.{point_at}
-use Rattle.star_path.proofs.Ways.{segments}
 use Rattle.star_path.proofs.write_segments.Given as goal
 
 abbrev pub invariant-loop-k : goal.invariant-loop-k
