@@ -1,14 +1,12 @@
--- Every call answers a plate on the grid and the same plate enlarged alike, for each of the factors 2, 4, 8, 16, 32 and 64. Each law that is cited stands in the crate of the call.
--- Assumes nothing.
+-- Every call answers a plate on the grid and the same plate enlarged alike. Each law that is cited stands in the crate of the call. Assumes nothing.
 use mathlib.Core.Path.{◌≡◌, refl, sym, ap, ap₂, subst, ◌∙◌}
 use mathlib.Core.Bool.{Bool, true, false}
 use mathlib.Core.List.{List, map}
 use Prim.Native.Nat.{ℕ, ◌+◌, ◌≤◌}
 use native.Mathlib.Omega.{arith}
 use lib.Dec.{T, lit≤}
-use lib.Ieee.{Float, nan, binary32, mul}
+use lib.Ieee.{Float, binary32}
 use lib.Ieee.Scale.{finite}
-use lib.ListN.{get_or, length-map, get_or-map}
 use Rattle.ieee.specs.Grid.{scale}
 use Rattle.ieee.proofs.Grid.{mul_pow_finite}
 use Rattle.command.specs.declared.PathCommand.{PathCommand}
@@ -35,10 +33,8 @@ use Rattle.repeater.specs.declared.RepeaterStyle.{RepeaterStyle}
 use Rattle.repeater.proofs.Enlarged.{RepeaterTwin}
 use Rattle.copies.proofs.Enlarged.{order_same, copy_twins}
 use Rattle.enlargement.specs.Plates.{Lent, Plate, OfVertices, OfRow, OfMerge, PlateOnGrid, LengthAsked}
-use Rattle.enlargement.specs.Plates.{times, enlarged_repeater, MultipliedAt, Enlarged, enlarge}
-use Rattle.enlargement.specs.Claim.{AnsweredAlike, EnlargedAlike, multiplied_numbers}
-use Rattle.enlargement.specs.Buffers.{FilledAlike}
-use Rattle.enlargement.proofs.Buffers.{filled_alike}
+use Rattle.enlargement.specs.Plates.{times, enlarged_repeater, Enlarged}
+use Rattle.enlargement.specs.Claim.{AnsweredAlike, multiplied_numbers}
 use Rattle.enlargement.proofs.Numbers.{multiplied_twins, path_alike, row_alike, merge_alike, products, made_small, repeater_twin, all_small}
 
 -- ---- the claim
@@ -116,7 +112,7 @@ module _ (k : ℕ) (K : k ≤ 6) (p p' : Plate) (G : PlateOnGrid p) (E : Enlarge
       (merge_alike k K p.lent.rows p.lent.row_count p.items p'.items
       (multiplied_twins k K (OfMerge p.lent.rows p.lent.row_count) p.items p'.items G.rows E.rows)).outcome
 
-  answered : AnsweredAlike k p p'
+  pub answered : AnsweredAlike k p p'
   answered = record {
     path_drawn = path_drawn;
     item_drawn = item_drawn;
@@ -155,35 +151,3 @@ module _ (k : ℕ) (K : k ≤ 6) (p p' : Plate) (G : PlateOnGrid p) (E : Enlarge
     where
       small : 16 + k ≤ 22
       small = omega arith
-
--- the third demand
-pub answered_alike : EnlargedAlike
-answered_alike k K p p' G E = let A = answered k K p p' G E in (A, filled_alike k p p' A)
-
--- ---- a plate enlarged by multiplying every number
-
-product_nan : (k : ℕ) → times k nan ≡ nan
-unfolding mul
-product_nan k = refl
-
-multiplied_all : (k : ℕ) (read : ℕ → Type 0) (v : List Float) → MultipliedAt k read v (map (times k) v)
-multiplied_all k read v = record {
-  same_length = length-map v (times k);
-  multiplied = λ i r h. ap (λ (d : Float). get_or (map (times k) v) i d) (sym (product_nan k)) ∙ get_or-map (times k) v i nan;
-}
-
-enlarged_all : (k : ℕ) (p : Plate) → Enlarged k p (enlarge k p)
-unfolding enlarge
-enlarged_all k p = record {
-  lent = refl;
-  vertices = multiplied_all k (OfVertices p.lent.count) p.vertices;
-  row = multiplied_all k (OfRow (item_row p.lent.row 0)) p.items;
-  rows = multiplied_all k (OfMerge p.lent.rows p.lent.row_count) p.items;
-  numbers = refl;
-  least = refl;
-  repeater = refl;
-}
-
--- 2, 4, 8, 16, 32 and 64 times as large
-pub plate_enlarged : (k : ℕ) → k ≤ 6 → (p : Plate) → PlateOnGrid p → AnsweredAlike k p (enlarge k p) × FilledAlike k p (enlarge k p)
-plate_enlarged k K p G = answered_alike k K p (enlarge k p) G (enlarged_all k p)

@@ -49,7 +49,7 @@ use Rattle.copies.specs.Calls.{has_too_many, repeater_checks, copy_numbers, all_
 use Rattle.enlargement.specs.Plates.{Lent, Plate, OnGrid, GridAt, of_vertices, PlateOnGrid, LengthAsked, enlarge}
 use Rattle.enlargement.specs.Claim.{AnsweredAlike}
 use Rattle.enlargement.specs.Buffers.{FilledAlike}
-use Rattle.enlargement.proofs.Claim.{plate_enlarged}
+use Rattle.enlargement.proofs.Alike.{plate_enlarged}
 
 -- ---- the plate
 abbrev three : Float

@@ -2,6 +2,7 @@
 pub mod Numbers
 pub mod Buffers
 pub mod Claim
+pub mod Alike
 pub mod Example
 pub mod Needed
 pub mod Accepted

@@ -20,7 +20,7 @@
 -- says that it is the f32 product. What is asked of the plates is `PlateOnGrid` and `Enlarged` (specs/Plates.antt). The answers stand here without the
 -- last check, 11, which asks the size of the caller's buffers; `FilledAlike` (specs/Buffers.antt) says the same of what the calls put into them. Each
 -- exported function promises (crates/jengafir) that what it hands back is what these definitions say, so the claim is one about the definitions of the
--- second demand. The proof is proofs/Claim.antt, and proofs/Example.antt is a plate that meets the conditions. Definitions only.
+-- second demand. The proof is proofs/Claim.antt and proofs/Alike.antt, and proofs/Example.antt is a plate that meets the conditions. Definitions only.
 use Rattle.std.specs.Prelude.{ℕ, ◌≤◌, ◌≡◌, List, [], ◌∷◌, ◌++◌, map, Float, take, drop}
 use Rattle.ieee.specs.Grid.{scale}
 use Rattle.command.specs.Commands.{numbers_of}
