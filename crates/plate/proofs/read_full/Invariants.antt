@@ -1,9 +1,0 @@
--- `plate::read_full` ends, since each turn leaves less of the buffer to fill.
-use Rattle.std.proofs.Common.{◌-◌, ◌≤◌, length}
-use Rattle.plate.proofs.read_full.Given as goal
-
-abbrev pub invariant-loop-done : goal.invariant-loop-done
-invariant-loop-done g l = l.done ≤ length l.text
-
-abbrev pub decreases-loop-done : goal.decreases-loop-done
-decreases-loop-done g l = length l.text - l.done
