@@ -1,5 +1,6 @@
 -- What each way out of a function of this crate owes, as the code meets it: a premise for each test and for each call's result.
 -- Assumes nothing.
+use Rattle.std.specs.Prelude.{Ok, Err}
 use mathlib.Core.Path.{◌≡◌, refl, sym, ap, ◌∙◌, subst}
 use mathlib.Core.Bool.{Bool, true, false, cond, not, ◌&&◌, ◌||◌, true≢false, and-eq-true_iff}
 use mathlib.Core.List.{List, [], ◌∷◌}
@@ -27,7 +28,7 @@ use Rattle.count.specs.Count.{count_up, count_limit}
 use Rattle.command.specs.declared.Refusal.{Refusal}
 use Rattle.command.specs.declared.Refusal.TheVariants.{TooMany, OutOfRange, NoSuchCopy, NotFinite, BufferTooSmall}
 use Rattle.command.specs.Refusals.{refusal_number}
-use Rattle.command.specs.Outcomes.{Outcome, refused, accepted, ◌gives◌, checked, AllPass}
+use Rattle.command.specs.Outcomes.{Outcome, ◌gives◌, checked, AllPass}
 use Rattle.command.specs.Buffers.{fitted, in_buffer, Filled}
 use Rattle.command.proofs.Buffers.{sets_append, fitted_accepted, fitted_refused, unfilled, filled}
 use Rattle.matrix.specs.declared.Matrix.{Matrix}
@@ -54,16 +55,16 @@ module _ (r : RepeaterStyle) where
   many_copies h = rw h
 
   module _ (x : Bool) (x_is : x ≡ has_too_many r) where
-    pub verdict_many : x ≡ true → verdict_of (Refused TooMany) ≡ checked (repeater_checks r) (accepted tt)
+    pub verdict_many : x ≡ true → verdict_of (Refused TooMany) ≡ checked (repeater_checks r) (Ok tt)
     unfolding repeater_checks
     verdict_many t = rw (sym x_is ∙ t)
 
     module _ (few : x ≡ false) (y : Bool) (y_is : y ≡ all_within repeater_limit (repeater_numbers r)) where
-      pub verdict_beyond : y ≡ false → verdict_of (Refused OutOfRange) ≡ checked (repeater_checks r) (accepted tt)
+      pub verdict_beyond : y ≡ false → verdict_of (Refused OutOfRange) ≡ checked (repeater_checks r) (Ok tt)
       unfolding repeater_checks
       verdict_beyond t = rw (sym x_is ∙ few, sym y_is ∙ t)
 
-      pub verdict_passed : y ≡ true → verdict_of Passed ≡ checked (repeater_checks r) (accepted tt)
+      pub verdict_passed : y ≡ true → verdict_of Passed ≡ checked (repeater_checks r) (Ok tt)
       unfolding repeater_checks
       verdict_passed t = rw (sym x_is ∙ few, sym y_is ∙ t)
 
@@ -207,15 +208,15 @@ pub ruleset puts = (copy_put, copy_place)
 -- ---- the last check
 module _ {A : Type 0} (l : List A) where
   module _ (xs : List A) (n : ℕ) (n_is : length xs ≡ n) where
-    fits : n ≤ length l → (l' : List A) → l' ≡ sets l 0 xs → Filled (fitted (in_buffer (length l)) (accepted xs)) 0 n l l'
+    fits : n ≤ length l → (l' : List A) → l' ≡ sets l 0 xs → Filled (fitted (in_buffer (length l)) (Ok xs)) 0 n l l'
     fits h l' e =
         let room : length xs ≤ length l = rw n_is h in
         rw (fitted_accepted (in_buffer (length l)) xs (le-leb (length xs) (length l) room)) (filled xs l l' n room (sym n_is) e)
 
-    short : length l < n → Filled (fitted (in_buffer (length l)) (accepted xs)) (refusal_number BufferTooSmall) 0 l l
+    short : length l < n → Filled (fitted (in_buffer (length l)) (Ok xs)) (refusal_number BufferTooSmall) 0 l l
     short h = rw (fitted_refused (in_buffer (length l)) xs (lt-leb (length xs) (length l) (rw n_is h))) (unfilled BufferTooSmall l)
 
-  turned_back : (r : Refusal) (o : Outcome (List A)) → o ≡ refused r → Filled (fitted (in_buffer (length l)) o) (refusal_number r) 0 l l
+  turned_back : (r : Refusal) (o : Outcome (List A)) → o ≡ Err r → Filled (fitted (in_buffer (length l)) o) (refusal_number r) 0 l l
   unfolding fitted
   turned_back r o e = rw e (unfilled r l)
 
@@ -239,10 +240,10 @@ order_length mode n = go (eqb mode 1)
     go false = falling_length n
 
 module _ (mode n : ℕ) (l : List ℕ) where
-  pub order_written : (l' : List ℕ) → l' ≡ sets l 0 (order_of mode n) → n ≤ length l → Filled (fitted (in_buffer (length l)) (accepted (order_of mode n))) 0 n l l'
+  pub order_written : (l' : List ℕ) → l' ≡ sets l 0 (order_of mode n) → n ≤ length l → Filled (fitted (in_buffer (length l)) (Ok (order_of mode n))) 0 n l l'
   order_written l' e h = fits l (order_of mode n) n (order_length mode n) h l' e
 
-  pub order_short : length l < n → Filled (fitted (in_buffer (length l)) (accepted (order_of mode n))) (refusal_number BufferTooSmall) 0 l l
+  pub order_short : length l < n → Filled (fitted (in_buffer (length l)) (Ok (order_of mode n))) (refusal_number BufferTooSmall) 0 l l
   order_short h = short l (order_of mode n) n (order_length mode n) h
 
 pub ruleset writes = (order_written, order_short)
@@ -311,11 +312,11 @@ module _ (r : RepeaterStyle) (pass : AllPass (repeater_checks r)) where
   count_few = few r.copies (within_number r.copies copies_within) not_many.0
 
 -- ---- copy_order, copy_transform
-module _ (r : RepeaterStyle) (v : Verdict) (v_is : verdict_of v ≡ checked (repeater_checks r) (accepted tt)) where
+module _ (r : RepeaterStyle) (v : Verdict) (v_is : verdict_of v ≡ checked (repeater_checks r) (Ok tt)) where
   module _ (f : Refusal) (e : v ≡ Refused f) where
     pub order_refused : (l : List ℕ) → Filled (fitted (in_buffer (length l)) (order_answer r)) (refusal_number f) 0 l l
     unfolding order_answer
-    order_refused l = turned_back l f (order_answer r) (behind_refused (repeater_checks r) v v_is f e (accepted (copy_order r)))
+    order_refused l = turned_back l f (order_answer r) (behind_refused (repeater_checks r) v v_is f e (Ok (copy_order r)))
 
     pub copy_refused : (copy : ℕ) (l : List Float) → Filled (fitted (in_buffer (length l)) (transform_answer r copy)) (refusal_number f) 0 l l
     unfolding transform_answer
@@ -329,10 +330,10 @@ module _ (r : RepeaterStyle) (v : Verdict) (v_is : verdict_of v ≡ checked (rep
     order_few n n_is = rw n_is (count_few r repeater_passed)
 
     module _ (number count : ℕ) where
-      pub order_passed : (n : ℕ) → n ≡ copy_count r → (l l' : List ℕ) → Filled (fitted (in_buffer (length l)) (accepted (order_of r.mode n))) number count l l'
+      pub order_passed : (n : ℕ) → n ≡ copy_count r → (l l' : List ℕ) → Filled (fitted (in_buffer (length l)) (Ok (order_of r.mode n))) number count l l'
           → Filled (fitted (in_buffer (length l)) (order_answer r)) number count l l'
       unfolding order_answer copy_order
-      order_passed n n_is l l' F = rw (behind_passed (repeater_checks r) v v_is e (accepted (copy_order r)), ← n_is) F
+      order_passed n n_is l l' F = rw (behind_passed (repeater_checks r) v v_is e (Ok (copy_order r)), ← n_is) F
 
       pub copy_passed : (copy : ℕ) (l l' : List Float) → Filled (fitted (in_buffer (length l)) (copy_answer r copy)) number count l l'
           → Filled (fitted (in_buffer (length l)) (transform_answer r copy)) number count l l'
@@ -352,7 +353,7 @@ seven m o = refl
 
 -- numbers, refused where one is not finite
 abbrev pub finite_only : List Float → Outcome (List Float)
-finite_only xs = checked ((not (all_finite xs) gives NotFinite) ∷ []) (accepted xs)
+finite_only xs = checked ((not (all_finite xs) gives NotFinite) ∷ []) (Ok xs)
 
 module _ (m : Matrix) (o : Float) (x : Bool) (x_is : x ≡ all_finite (copy_numbers m o)) (l : List Float) where
   pub copy_burst : x ≡ false → Filled (fitted (in_buffer (length l)) (finite_only (copy_numbers m o))) (refusal_number NotFinite) 0 l l

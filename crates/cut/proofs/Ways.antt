@@ -1,5 +1,6 @@
 -- What each way out of a function of this crate owes, as the code meets it: a premise for each test and for each call's result.
 -- Assumes nothing.
+use Rattle.std.specs.Prelude.{Ok, Err}
 use mathlib.Core.Path.{◌≡◌, refl, sym, ap, ◌∙◌}
 use mathlib.Core.Bool.{Bool, true, false, cond}
 use mathlib.Core.List.{List, [], ◌∷◌, ◌++◌}
@@ -18,7 +19,7 @@ use Rattle.ieee.specs.Choice.{max}
 use Rattle.command.specs.declared.Refusal.{Refusal}
 use Rattle.command.specs.declared.Refusal.TheVariants.{OutOfRange, Unlisted, TooShort}
 use Rattle.command.specs.Refusals.{refusal_number}
-use Rattle.command.specs.Outcomes.{Outcome, refused, accepted, mapped, and_then, AllPass}
+use Rattle.command.specs.Outcomes.{Outcome, mapped, and_then, AllPass}
 use Rattle.command.specs.Buffers.{onto}
 use Rattle.command.proofs.Buffers.{sets_append, sets_onto, unfilled}
 use Rattle.length.specs.declared.Measured.{Measured}
@@ -69,21 +70,21 @@ pub ruleset modes = (mode_one, mode_other)
 
 -- ---- the calls
 module _ (trim : TrimStyle) (x : Bool) (x_is : x ≡ is_finite_trim trim) where
-  pub ranges_visible : (r : Ranges) → r ≡ normalized_trim_segments trim → x ≡ true → accepted r ≡ trim_ranges trim
+  pub ranges_visible : (r : Ranges) → r ≡ normalized_trim_segments trim → x ≡ true → Ok r ≡ trim_ranges trim
   unfolding trim_ranges
-  ranges_visible r r_is t = ap accepted r_is ∙ rw (sym x_is ∙ t)
+  ranges_visible r r_is t = ap Ok r_is ∙ rw (sym x_is ∙ t)
 
-  pub ranges_refused : x ≡ false → refused OutOfRange ≡ trim_ranges trim
+  pub ranges_refused : x ≡ false → Err OutOfRange ≡ trim_ranges trim
   unfolding trim_ranges
   ranges_refused t = rw (sym x_is ∙ t)
 
   module _ (codes : List ℕ) (numbers : List Float) where
-    pub lengths_beyond : x ≡ false → refused OutOfRange ≡ trim_lengths trim codes numbers
+    pub lengths_beyond : x ≡ false → Err OutOfRange ≡ trim_lengths trim codes numbers
     unfolding trim_lengths
     lengths_beyond t = rw (sym x_is ∙ t)
 
     module _ (right : x ≡ true) (y : Bool) (y_is : y ≡ is_trim_mode trim.mode) where
-      pub lengths_unlisted : y ≡ false → refused Unlisted ≡ trim_lengths trim codes numbers
+      pub lengths_unlisted : y ≡ false → Err Unlisted ≡ trim_lengths trim codes numbers
       unfolding trim_lengths
       lengths_unlisted t = rw (sym x_is ∙ right, sym y_is ∙ t)
 
@@ -97,16 +98,16 @@ pub checks_finite : (trim : TrimStyle) → AllPass (trim_checks trim) → is_fin
 checks_finite trim pass = not-false _ pass.0
 
 module _ (trim : TrimStyle) (m : Measured) where
-  pub measured_refused : (r : Refusal) → m ≡ measured.Refused r → refused r ≡ and_then (measured_of m) (cut_measured trim)
+  pub measured_refused : (r : Refusal) → m ≡ measured.Refused r → Err r ≡ and_then (measured_of m) (cut_measured trim)
   measured_refused r e = rw e
 
   module _ (x : Float) (e : m ≡ measured.Length x) where
-    pub measured_short : le x shortest ≡ true → refused TooShort ≡ and_then (measured_of m) (cut_measured trim)
+    pub measured_short : le x shortest ≡ true → Err TooShort ≡ and_then (measured_of m) (cut_measured trim)
     unfolding cut_measured
     measured_short t = rw (e, t)
 
     pub measured_cut : le x shortest ≡ false → (r : Ranges) → r ≡ normalized_trim_segments trim
-        → accepted (x, r) ≡ and_then (measured_of m) (cut_measured trim)
+        → Ok (x, r) ≡ and_then (measured_of m) (cut_measured trim)
     unfolding cut_measured
     measured_cut t r r_is = rw (e, t, r_is)
 
@@ -184,10 +185,10 @@ pub ruleset lengths = (lengths_nothing, lengths_one, room_after, lengths_two)
 
 -- ---- callers that tell the answer in places
 module _ (width : ℕ) (o : Outcome (Ranges × List Float)) (l : List Float) (mark : ℕ) where
-  unplaced : (r : Refusal) → refused r ≡ o → Placed width o (refusal_number r) 0 l l mark mark
+  unplaced : (r : Refusal) → Err r ≡ o → Placed width o (refusal_number r) 0 l l mark mark
   unplaced r is = rw (← is) (record { numbers_filled = rw mul-zero (unfilled r l); count_is = refl; mark_told = record { number_is = refl; value_is = refl } })
 
-  placed : (r : Ranges) (xs l' : List Float) → accepted (r, xs) ≡ o → width * range_count r ≡ length xs → l' ≡ onto xs l
+  placed : (r : Ranges) (xs l' : List Float) → Ok (r, xs) ≡ o → width * range_count r ≡ length xs → l' ≡ onto xs l
       → Placed width o 0 (range_count r) l l' mark (mark_of r)
   placed r xs l' is wide l_is = rw (← is) (record {
     numbers_filled = record { number_is = refl; count_is = wide; content_is = l_is };

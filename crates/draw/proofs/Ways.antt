@@ -1,5 +1,6 @@
 -- What each way out of a function of this crate owes, as the code meets it: a premise for each test and for each call's result.
 -- Assumes nothing.
+use Rattle.std.specs.Prelude.{Ok}
 use mathlib.Core.Path.{◌≡◌, sym, ap, ◌∙◌}
 use mathlib.Core.Bool.{Bool, true, false, not}
 use mathlib.Core.List.{List, [], ◌∷◌}
@@ -17,7 +18,7 @@ use Rattle.command.specs.declared.Refusal.{Refusal}
 use Rattle.command.specs.declared.Refusal.TheVariants.{Empty, TooMany, OutOfRange, Unlisted, Unsupported, OutOfBounds}
 use Rattle.command.specs.declared.Counts.{Counts}
 use Rattle.command.specs.Refusals.{refusal_number}
-use Rattle.command.specs.Outcomes.{Outcome, accepted, ◌gives◌, checked, counts_number, first_count, second_count}
+use Rattle.command.specs.Outcomes.{Outcome, ◌gives◌, checked, counts_number, first_count, second_count}
 use Rattle.command.specs.Buffers.{in_buffers, fitted, FilledBoth}
 use Rattle.command.proofs.Buffers.{both_unfilled}
 use Rattle.command.specs.declared.Verdict.{Verdict}
@@ -41,22 +42,22 @@ use Rattle.draw.specs.Items.{is_drawable, is_held_back, has_no_vertices, item_sh
 
 -- ---- check_path and draw_path
 module _ (closed : ℕ) (v : List Float) (count : ℕ) where
-  pub path_empty : count ≡ 0 → verdict_of (Refused Empty) ≡ checked (path_checks closed v count) (accepted tt)
+  pub path_empty : count ≡ 0 → verdict_of (Refused Empty) ≡ checked (path_checks closed v count) (Ok tt)
   unfolding path_checks
   path_empty a = rw (eq-eqb count 0 a)
 
   module _ (a : count ≡ 0 → ⊥) where
-    pub path_many : 1024 < count → verdict_of (Refused TooMany) ≡ checked (path_checks closed v count) (accepted tt)
+    pub path_many : 1024 < count → verdict_of (Refused TooMany) ≡ checked (path_checks closed v count) (Ok tt)
     unfolding path_checks
     path_many b = rw (ne_eqb count 0 a, lt-ltb 1024 count b)
 
     module _ (b : count ≤ 1024) where
-      pub path_unlisted : 1 < closed → verdict_of (Refused Unlisted) ≡ checked (path_checks closed v count) (accepted tt)
+      pub path_unlisted : 1 < closed → verdict_of (Refused Unlisted) ≡ checked (path_checks closed v count) (Ok tt)
       unfolding path_checks
       path_unlisted c = rw (ne_eqb count 0 a, le-ltb 1024 count b, lt-ltb 1 closed c)
 
       module _ (c : closed ≤ 1) where
-        pub path_outside : length v < 6 * count → verdict_of (Refused OutOfBounds) ≡ checked (path_checks closed v count) (accepted tt)
+        pub path_outside : length v < 6 * count → verdict_of (Refused OutOfBounds) ≡ checked (path_checks closed v count) (Ok tt)
         unfolding path_checks
         path_outside d = rw (ne_eqb count 0 a, le-ltb 1024 count b, le-ltb 1 closed c, lt-ltb (length v) (6 * count) d)
 
@@ -66,13 +67,13 @@ module _ (closed : ℕ) (v : List Float) (count : ℕ) where
           unfolding path_checks
           last_path = rw (ne_eqb count 0 a, le-ltb 1024 count b, le-ltb 1 closed c, le-ltb (length v) (6 * count) d, ← is)
 
-          pub path_passes : t ≡ true → verdict_of Passed ≡ checked (path_checks closed v count) (accepted tt)
+          pub path_passes : t ≡ true → verdict_of Passed ≡ checked (path_checks closed v count) (Ok tt)
           path_passes e = rw e at last_path
 
-          pub path_beyond : t ≡ false → verdict_of (Refused OutOfRange) ≡ checked (path_checks closed v count) (accepted tt)
+          pub path_beyond : t ≡ false → verdict_of (Refused OutOfRange) ≡ checked (path_checks closed v count) (Ok tt)
           path_beyond e = rw e at last_path
 
-  module _ (verdict : Verdict) (verdict_is : verdict_of verdict ≡ checked (path_checks closed v count) (accepted tt)) where
+  module _ (verdict : Verdict) (verdict_is : verdict_of verdict ≡ checked (path_checks closed v count) (Ok tt)) where
     pub path_ready : verdict ≡ Passed → Fit (Path closed count) v
     path_ready e =
         let P = path_passed closed v count (all_pass (path_checks closed v count) verdict verdict_is e) in
@@ -82,16 +83,16 @@ module _ (closed : ℕ) (v : List Float) (count : ℕ) where
         → FilledBoth (fitted (in_buffers (length codes) (length numbers)) (draw_path closed v count)) (refusal_number r) 0 0 codes codes numbers numbers
     unfolding draw_path fitted
     path_refused codes numbers r e =
-        rw (behind_refused (path_checks closed v count) verdict verdict_is r e (accepted (path_commands closed v count))) (both_unfilled r codes numbers)
+        rw (behind_refused (path_checks closed v count) verdict verdict_is r e (Ok (path_commands closed v count))) (both_unfilled r codes numbers)
 
     pub path_drawn_whole : (codes codes' : List ℕ) (numbers numbers' : List Float) (r : Counts) → verdict ≡ Passed
-        → FilledBoth (fitted (in_buffers (length codes) (length numbers)) (accepted (shape_commands (Path closed count) v)))
+        → FilledBoth (fitted (in_buffers (length codes) (length numbers)) (Ok (shape_commands (Path closed count) v)))
         (counts_number r) (first_count r) (second_count r) codes codes' numbers numbers'
         → FilledBoth (fitted (in_buffers (length codes) (length numbers)) (draw_path closed v count)) (counts_number r) (first_count r) (second_count r)
         codes codes' numbers numbers'
     unfolding draw_path shape_commands
     path_drawn_whole codes codes' numbers numbers' r e f =
-        rw (behind_passed (path_checks closed v count) verdict verdict_is e (accepted (path_commands closed v count))) f
+        rw (behind_passed (path_checks closed v count) verdict verdict_is e (Ok (path_commands closed v count))) f
 
 pub taken : (v : List Float) (n : ℕ) → n ≤ length v → n ≡ length (take n v)
 taken v n h = sym (length-take-le n v h)
@@ -281,7 +282,7 @@ pub ruleset sources = (
 )
 
 -- ---- a row behind its checks: what shape_of asks, and what draw_source owes
-module _ (row : ItemRow) (items : List Float) (u : Verdict) (u_is : verdict_of u ≡ checked (source_checks row items) (accepted tt)) where
+module _ (row : ItemRow) (items : List Float) (u : Verdict) (u_is : verdict_of u ≡ checked (source_checks row items) (Ok tt)) where
   abbrev rest : List Float
   rest = drop row.place items
 
@@ -311,7 +312,7 @@ pub ruleset behind_checks = (some_vertices, few_vertices, numbers_inside, source
 
 -- ---- check_row
 module _ (row : List ℕ) where
-  pub row_short : length row < 6 → verdict_of (Refused OutOfBounds) ≡ checked (item_checks row) (accepted tt)
+  pub row_short : length row < 6 → verdict_of (Refused OutOfBounds) ≡ checked (item_checks row) (Ok tt)
   unfolding item_checks
   row_short a = rw (lt-ltb (length row) 6 a)
 
@@ -319,11 +320,11 @@ module _ (row : List ℕ) where
     row_judged : is_drawable (item_row row 0) ≡ t
     row_judged = ap is_drawable (sym r_is) ∙ sym t_is
 
-    pub row_unlisted : t ≡ false → verdict_of (Refused Unlisted) ≡ checked (item_checks row) (accepted tt)
+    pub row_unlisted : t ≡ false → verdict_of (Refused Unlisted) ≡ checked (item_checks row) (Ok tt)
     unfolding item_checks
     row_unlisted b = rw (le-ltb (length row) 6 a, row_judged ∙ b)
 
-    pub row_passes : t ≡ true → verdict_of Passed ≡ checked (item_checks row) (accepted tt)
+    pub row_passes : t ≡ true → verdict_of Passed ≡ checked (item_checks row) (Ok tt)
     unfolding item_checks
     row_passes b = rw (le-ltb (length row) 6 a, row_judged ∙ b)
 
@@ -351,7 +352,7 @@ module _ (k : Checked) (v : List Float) where
     sound_fit ready = rw (tail v place) (ready_sound ready).1
 
     pub sound_drawn : (codes codes' : List ℕ) (numbers numbers' : List Float) (r : Counts)
-        → FilledBoth (fitted (in_buffers (length codes) (length numbers)) (accepted (shape_commands s (take (length v - place) (drop place v))))) (counts_number r) (first_count r) (second_count r)
+        → FilledBoth (fitted (in_buffers (length codes) (length numbers)) (Ok (shape_commands s (take (length v - place) (drop place v))))) (counts_number r) (first_count r) (second_count r)
         codes codes' numbers numbers'
         → FilledBoth (fitted (in_buffers (length codes) (length numbers)) (outcome_of k v)) (counts_number r) (first_count r) (second_count r) codes codes' numbers numbers'
     unfolding outcome_of
@@ -366,7 +367,7 @@ as_checked k v o codes codes' numbers numbers' r e f = rw (← e) f
 
 pub ruleset source_drawings = (source_refused, as_checked, behind_checks)
 
-module _ (row : List ℕ) (items : List Float) (u : Verdict) (u_is : verdict_of u ≡ checked (item_checks row) (accepted tt)) where
+module _ (row : List ℕ) (items : List Float) (u : Verdict) (u_is : verdict_of u ≡ checked (item_checks row) (Ok tt)) where
   pub item_refused : (codes : List ℕ) (numbers : List Float) (r : Refusal) → u ≡ Refused r
       → FilledBoth (fitted (in_buffers (length codes) (length numbers)) (draw_item row items)) (refusal_number r) 0 0 codes codes numbers numbers
   unfolding draw_item fitted

@@ -1,5 +1,6 @@
 -- What each way out of a function of this crate owes, as the code meets it: a premise for each test and for each call's result.
 -- Assumes nothing.
+use Rattle.std.specs.Prelude.{Ok, Err}
 use mathlib.Core.Path.{◌≡◌, refl, sym, ap, ◌∙◌}
 use mathlib.Core.Bool.{Bool, true, false, cond}
 use mathlib.Core.List.{List, [], ◌∷◌, ◌++◌, map}
@@ -19,7 +20,7 @@ use Rattle.command.specs.declared.Counts.{Counts}
 use Rattle.command.specs.declared.Counts.TheVariants.{Refused, Of}
 use Rattle.command.specs.Commands.{codes_of, numbers_of}
 use Rattle.command.specs.Refusals.{refusal_number}
-use Rattle.command.specs.Outcomes.{Outcome, refused, accepted, list_of, counts_of, counts_number, first_count, second_count}
+use Rattle.command.specs.Outcomes.{Outcome, list_of, counts_of, counts_number, first_count, second_count}
 use Rattle.command.specs.Buffers.{in_buffers, fitted, FilledBoth, size_of, need_of}
 use Rattle.command.proofs.Outcomes.{refused_accepted}
 use Rattle.command.proofs.Lists.{codes_length, codes_append, numbers_append}
@@ -50,7 +51,7 @@ module _ (row : ItemRow) (items : List Float) (t : Bool) (is : t ≡ is_source_r
   unfolding draw_row
   row_source h = rw (← is, h)
 
-  pub row_other : t ≡ false → draw_row row items ≡ accepted []
+  pub row_other : t ≡ false → draw_row row items ≡ Ok []
   unfolding draw_row
   row_other h = rw (← is, h)
 
@@ -69,23 +70,23 @@ codes_in o = codes_of (list_of o)
 abbrev pub numbers_in : Outcome (List PathCommand) → List Float
 numbers_in o = numbers_of (list_of o)
 
-need_refused : (o p : Outcome (List PathCommand)) (r : Refusal) → refused r ≡ need_of o → need_of (followed_by o p) ≡ refused r
+need_refused : (o p : Outcome (List PathCommand)) (r : Refusal) → Err r ≡ need_of o → need_of (followed_by o p) ≡ Err r
 unfolding followed_by
-need_refused (refused q) p r e = sym e
-need_refused (accepted cs) p r e = refused_accepted r (size_of cs) e
+need_refused (Err q) p r e = sym e
+need_refused (Ok cs) p r e = refused_accepted r (size_of cs) e
 
 -- what a need that is told says of the drawing
-need_told : (o : Outcome (List PathCommand)) (c n : ℕ) → counts_of (Of c n) ≡ need_of o → (o ≡ accepted (list_of o)) × (c ≡ length (codes_in o)) × (n ≡ length (numbers_in o))
+need_told : (o : Outcome (List PathCommand)) (c n : ℕ) → counts_of (Of c n) ≡ need_of o → (o ≡ Ok (list_of o)) × (c ≡ length (codes_in o)) × (n ≡ length (numbers_in o))
 need_told o c n e =
     let d = drawn_needs o (c, n) (sym e) in
     (d.0, sym (ap (λ (k : ℕ × ℕ). k.0) d.1), sym (ap (λ (k : ℕ × ℕ). k.1) d.1))
 
 pub need_room : (o p : Outcome (List PathCommand)) (c n : ℕ) → counts_of (Of c n) ≡ need_of o → need_of (followed_by o p) ≡ need_after c n (need_of p)
 unfolding followed_by need_after
-need_room (refused q) p c n e = refused_accepted q (c, n) (sym e)
-need_room (accepted cs) (refused r) c n e = refl
-need_room (accepted cs) (accepted ds) c n e =
-    let s = need_told (accepted cs) c n e in
+need_room (Err q) p c n e = refused_accepted q (c, n) (sym e)
+need_room (Ok cs) (Err r) c n e = refl
+need_room (Ok cs) (Ok ds) c n e =
+    let s = need_told (Ok cs) c n e in
     let a : length (codes_of (cs ++ ds)) ≡ c + length (codes_of ds) =
     ap length (codes_append cs ds) ∙ length-append (codes_of cs) (codes_of ds) ∙ ap (λ (k : ℕ). k + length (codes_of ds)) (sym s.1) in
     let b : length (numbers_of (cs ++ ds)) ≡ n + length (numbers_of ds) =
@@ -94,16 +95,16 @@ need_room (accepted cs) (accepted ds) c n e =
 
 after_after : (a b c d : ℕ) (x : Outcome (ℕ × ℕ)) → need_after a b (need_after c d x) ≡ need_after (a + c) (b + d) x
 unfolding need_after
-after_after a b c d (refused r) = refl
-after_after a b c d (accepted m) =
+after_after a b c d (Err r) = refl
+after_after a b c d (Ok m) =
     let e : a + (c + m.0) ≡ a + c + m.0 = omega arith in
     let f : b + (d + m.1) ≡ b + d + m.1 = omega arith in
     (λ i. counts_of (Of (e i) (f i)))
 
 after_none : (x : Outcome (ℕ × ℕ)) → need_after 0 0 x ≡ x
 unfolding need_after
-after_none (refused r) = refl
-after_none (accepted m) = λ i. counts_of (Of (zero-add m.0 i) (zero-add m.1 i))
+after_none (Err r) = refl
+after_none (Ok m) = λ i. counts_of (Of (zero-add m.0 i) (zero-add m.1 i))
 
 -- ---- rows_need
 
@@ -112,13 +113,13 @@ row_few : (row : ItemRow) (items : List Float) (c n : ℕ) → counts_of (Of c n
 unfolding draw_row
 row_few row items c n = go (is_source_row row)
   where
-    go : (b : Bool) → counts_of (Of c n) ≡ need_of (cond b (draw_source row items) (accepted [])) → (c ≤ 1026) × (n ≤ 6156)
+    go : (b : Bool) → counts_of (Of c n) ≡ need_of (cond b (draw_source row items) (Ok [])) → (c ≤ 1026) × (n ≤ 6156)
     go true f =
         let s = need_told (draw_source row items) c n f in
         let cs = list_of (draw_source row items) in
         (omega (arith, s.1, codes_length cs, source_few row items cs s.0), omega (arith, s.2, source_numbers_few row items cs s.0))
     go false f =
-        let s = need_told (accepted []) c n f in
+        let s = need_told (Ok []) c n f in
         (omega (arith, s.1), omega (arith, s.2))
 
 -- the need of the rows from i on, after that of the rows before
@@ -141,7 +142,7 @@ module _ (rows : List ℕ) (m : ℕ) (items : List Float) where
   unfolding draw_rows
   rows_split i h = rw (rest_step rows i m h)
 
-  rows_over : (i : ℕ) → m ≤ i → draw_rows (rows_from rows i (m - i)) items ≡ accepted []
+  rows_over : (i : ℕ) → m ≤ i → draw_rows (rows_from rows i (m - i)) items ≡ Ok []
   unfolding draw_rows
   rows_over i h = rw (rest_none rows i m h)
 
@@ -162,7 +163,7 @@ module _ (rows : List ℕ) (m : ℕ) (items : List Float) where
       split_need : need_after codes numbers (need_of (followed_by here later)) ≡ need_of (draw_rows (rows_from rows 0 m) items)
       split_need = ap (λ (o : Outcome (List PathCommand)). need_after codes numbers (need_of o)) (sym (rows_split i h)) ∙ w.rest
 
-      pub needing_refused : (r : Refusal) → need ≡ Refused r → refused r ≡ need_of (draw_rows (rows_from rows 0 m) items)
+      pub needing_refused : (r : Refusal) → need ≡ Refused r → Err r ≡ need_of (draw_rows (rows_from rows 0 m) items)
       unfolding need_after
       needing_refused r e = sym (ap (need_after codes numbers) (need_refused here later r (sym (ap counts_of e) ∙ need_at))) ∙ split_need
 
@@ -197,9 +198,9 @@ module _ (rows : List ℕ) (m : ℕ) (items : List Float) where
 pub ruleset rows_needs = (needing_start, row_inside, needing_refused, codes_fit, numbers_fit, needing_more, needing_end)
 
 -- ---- write_row
-drawn_is : (o : Outcome (List PathCommand)) → is_accepted o ≡ true → o ≡ accepted (list_of o)
-drawn_is (refused r) e = let z : ◌≡◌ {A = ℕ} 0 1 = cc in absurd (omega arith)
-drawn_is (accepted cs) e = refl
+drawn_is : (o : Outcome (List PathCommand)) → is_accepted o ≡ true → o ≡ Ok (list_of o)
+drawn_is (Err r) e = let z : ◌≡◌ {A = ℕ} 0 1 = cc in absurd (omega arith)
+drawn_is (Ok cs) e = refl
 
 module _ (row : ItemRow) (items : List Float) (t : Bool) (is : t ≡ is_source_row row) (drawn_row : is_accepted (draw_row row items) ≡ true) where
   module _ (h : t ≡ true) where
@@ -217,7 +218,7 @@ module _ (row : ItemRow) (items : List Float) (t : Bool) (is : t ≡ is_source_r
 
     -- the shape that is made draws what the row draws
     module _ (k : Checked) (k_is : outcome_of k items ≡ shape_drawn row (drop row.place items)) where
-      row_drawn_as : outcome_of k items ≡ accepted (list_of (draw_row row items))
+      row_drawn_as : outcome_of k items ≡ Ok (list_of (draw_row row items))
       row_drawn_as = k_is ∙ row_met.drawn
 
       pub row_not_refused : (r : Refusal) → k ≡ Fault r → {A : Type 0} → A
@@ -296,9 +297,9 @@ record Parts (o p : Outcome (List PathCommand)) : Type 0 where
 
 parts : (o p : Outcome (List PathCommand)) → is_accepted (followed_by o p) ≡ true → Parts o p
 unfolding followed_by
-parts (refused r) p e = let z : ◌≡◌ {A = ℕ} 0 1 = cc in absurd (omega arith)
-parts (accepted cs) (refused r) e = let z : ◌≡◌ {A = ℕ} 0 1 = cc in absurd (omega arith)
-parts (accepted cs) (accepted ds) e = record { first = refl; second = refl; both = refl }
+parts (Err r) p e = let z : ◌≡◌ {A = ℕ} 0 1 = cc in absurd (omega arith)
+parts (Ok cs) (Err r) e = let z : ◌≡◌ {A = ℕ} 0 1 = cc in absurd (omega arith)
+parts (Ok cs) (Ok ds) e = record { first = refl; second = refl; both = refl }
 
 -- The rows from i on, written on the buffers as they are, give what all rows give on the buffers as they were.
 pub record Joining (rows : List ℕ) (m : ℕ) (items : List Float) (codes₀ : List ℕ) (numbers₀ : List Float) (codes : List ℕ) (numbers : List Float) (at to i : ℕ) : Type 0 where
@@ -397,12 +398,12 @@ module _ (o : Outcome (List PathCommand)) (codes : List ℕ) (numbers : List Flo
   unfolding fitted
   need_unfilled r e = go o (sym (ap counts_of e) ∙ is)
     where
-      go : (p : Outcome (List PathCommand)) → refused r ≡ need_of p → FilledBoth (fitted fits p) (refusal_number r) 0 0 codes codes numbers numbers
-      go (refused q) f = let x : r ≡ q = cc in rw x (both_unfilled q codes numbers)
-      go (accepted cs) f = refused_accepted r (size_of cs) f
+      go : (p : Outcome (List PathCommand)) → Err r ≡ need_of p → FilledBoth (fitted fits p) (refusal_number r) 0 0 codes codes numbers numbers
+      go (Err q) f = let x : r ≡ q = cc in rw x (both_unfilled q codes numbers)
+      go (Ok cs) f = refused_accepted r (size_of cs) f
 
   module _ (c n : ℕ) (e : need ≡ Of c n) where
-    told_here : (o ≡ accepted (list_of o)) × (c ≡ length (codes_in o)) × (n ≡ length (numbers_in o))
+    told_here : (o ≡ Ok (list_of o)) × (c ≡ length (codes_in o)) × (n ≡ length (numbers_in o))
     told_here = need_told o c n (sym (ap counts_of e) ∙ is)
 
     pub need_drawn : is_accepted o ≡ true
@@ -443,10 +444,10 @@ pub ruleset joins = (need_unfilled, need_drawn, need_codes_short, need_codes_roo
 
 -- ---- draw_merge and merge_need
 
-nothing_first : (o : Outcome (List PathCommand)) → followed_by (accepted []) o ≡ o
+nothing_first : (o : Outcome (List PathCommand)) → followed_by (Ok []) o ≡ o
 unfolding followed_by
-nothing_first (refused r) = refl
-nothing_first (accepted cs) = refl
+nothing_first (Err r) = refl
+nothing_first (Ok cs) = refl
 
 -- the sources that the rows name are drawn as the rows are
 pub sources_drawn : (rows : List ℕ) (items : List Float) (i left : ℕ)
@@ -457,7 +458,7 @@ sources_drawn rows items i (suc left) = go (is_source_row (item_row rows i)) (so
   where
     go : (b : Bool) → draw_sources (map (item_row rows) (sources_from (i + 1) (rows_from rows (i + 1) left))) items ≡ draw_rows (rows_from rows (i + 1) left) items
         → draw_sources (map (item_row rows) (cond b (i ∷ sources_from (i + 1) (rows_from rows (i + 1) left)) (sources_from (i + 1) (rows_from rows (i + 1) left)))) items
-        ≡ followed_by (cond b (draw_source (item_row rows i) items) (accepted [])) (draw_rows (rows_from rows (i + 1) left) items)
+        ≡ followed_by (cond b (draw_source (item_row rows i) items) (Ok [])) (draw_rows (rows_from rows (i + 1) left) items)
     go true e = ap (followed_by (draw_source (item_row rows i) items)) e
     go false e = e ∙ sym (nothing_first (draw_rows (rows_from rows (i + 1) left) items))
 
@@ -470,7 +471,7 @@ module _ (rows : List ℕ) (n : ℕ) (items : List Float) (k : Decision) (is : s
   unfolding draw_merge said fitted
   merge_refused codes numbers r e = rw (← is, e) (both_unfilled r codes numbers)
 
-  pub merge_need_refused : (r : Refusal) → k ≡ Merge.Refused r → refused r ≡ need_of merged
+  pub merge_need_refused : (r : Refusal) → k ≡ Merge.Refused r → Err r ≡ need_of merged
   unfolding draw_merge said
   merge_need_refused r e = rw (← is, e)
 

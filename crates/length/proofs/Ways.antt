@@ -1,5 +1,6 @@
 -- What each way out of a function of this crate owes, as the code meets it: a premise for each test and for each call's result.
 -- Assumes nothing.
+use Rattle.std.specs.Prelude.{Ok, Err}
 use mathlib.Core.Path.{◌≡◌, refl, sym, ap, ◌∙◌}
 use mathlib.Core.Bool.{Bool, true, false, not}
 use mathlib.Core.List.{List, [], ◌∷◌}
@@ -14,7 +15,7 @@ use Rattle.command.specs.declared.PathCommand.{PathCommand}
 use Rattle.command.specs.declared.Refusal.{Refusal}
 use Rattle.command.specs.declared.Refusal.TheVariants.{TooMany, OutOfBounds}
 use Rattle.command.specs.Refusals.{refusal_number}
-use Rattle.command.specs.Outcomes.{Outcome, refused, accepted, mapped, and_then, Told}
+use Rattle.command.specs.Outcomes.{Outcome, mapped, and_then, Told}
 use Rattle.reader.specs.declared.Read.{Read}
 use Rattle.reader.specs.declared.Read.TheVariants as read
 use Rattle.reader.specs.Read.{size_of_code, read_command, read_of, read_from}
@@ -47,7 +48,7 @@ pub ruleset there = (there_never, there_reached)
 
 -- ---- the walk, taken apart
 module _ (until : Until) (pen : Pen) (n : ℕ) (v : List Float) where
-  walk_stopped : (codes : List ℕ) → is_there until pen.length ≡ true → walk_from until pen n codes v ≡ accepted (true, n, pen.length)
+  walk_stopped : (codes : List ℕ) → is_there until pen.length ≡ true → walk_from until pen n codes v ≡ Ok (true, n, pen.length)
   unfolding walk_from
   walk_stopped [] e = rw e
   walk_stopped (c ∷ cs) e = rw e
@@ -80,7 +81,7 @@ module _ (codes : List ℕ) (numbers : List Float) (until : Until) where
     abbrev v : List Float
     v = drop place numbers
 
-    pub walk_there : not b ≡ false → accepted (true, i, pen.length) ≡ whole_walk
+    pub walk_there : not b ≡ false → Ok (true, i, pen.length) ≡ whole_walk
     walk_there e = sym (walk_stopped until pen i v (drop i codes) (sym b_is ∙ not-false b e)) ∙ left.whole
 
     module _ (e : not b ≡ true) where
@@ -98,10 +99,10 @@ module _ (codes : List ℕ) (numbers : List Float) (until : Until) where
             ∙ ap (λ (l : List ℕ). walk_from until pen i l v) (sym (drop_of_length-le codes {i = i} (omega arith)))
             ∙ left.whole
 
-        pub walk_over : place < length numbers → refused OutOfBounds ≡ whole_walk
+        pub walk_over : place < length numbers → Err OutOfBounds ≡ whole_walk
         walk_over a = sym (ap (mapped at_end) (left_over v (λ z. omega (arith, length-drop place numbers)))) ∙ ended
 
-        pub walk_done : length numbers ≤ place → accepted (false, i, pen.length) ≡ whole_walk
+        pub walk_done : length numbers ≤ place → Ok (false, i, pen.length) ≡ whole_walk
         walk_done a = sym (ap (mapped at_end) (none_over v (omega (arith, length-drop place numbers)))) ∙ ended
 
       -- one command more
@@ -122,7 +123,7 @@ module _ (codes : List ℕ) (numbers : List Float) (until : Until) where
             ∙ ap (λ (l : List ℕ). walk_from until pen i l v) (sym (drop-cons codes i 0 h))
             ∙ left.whole
 
-        pub walk_refused : (refusal : Refusal) → r ≡ read.Refused refusal → refused refusal ≡ whole_walk
+        pub walk_refused : (refusal : Refusal) → r ≡ read.Refused refusal → Err refusal ≡ whole_walk
         walk_refused refusal f =
             sym (ap (λ (o : Outcome PathCommand). and_then o after) (read_refused c numbers place r r_is refusal f)) ∙ onward
 
@@ -140,15 +141,15 @@ pub ruleset walking = (walk_start, walk_there, walk_over, walk_done, walk_refuse
 
 -- ---- path_length
 module _ (codes : List ℕ) (numbers : List Float) where
-  pub length_many : 262144 < length codes → refused TooMany ≡ measure_list codes numbers
+  pub length_many : 262144 < length codes → Err TooMany ≡ measure_list codes numbers
   unfolding measure_list judge_list
   length_many many = rw (lt-ltb 262144 (length codes) many)
 
   module _ (few : length codes ≤ 262144) (w : Walked) (w_is : walked_of w ≡ walk_from End start_pen 0 codes numbers) where
-    pub length_refused : (r : Refusal) → w ≡ Refused r → refused r ≡ measure_list codes numbers
+    pub length_refused : (r : Refusal) → w ≡ Refused r → Err r ≡ measure_list codes numbers
     length_refused r e = ap (λ (x : Walked). length_of (walked_of x)) (sym e) ∙ ap length_of w_is ∙ walk_end codes numbers few
 
-    pub length_walked : (b : Bool) (n : ℕ) (x : Float) → w ≡ To b n x → accepted x ≡ measure_list codes numbers
+    pub length_walked : (b : Bool) (n : ℕ) (x : Float) → w ≡ To b n x → Ok x ≡ measure_list codes numbers
     length_walked b n x e = ap (λ (y : Walked). length_of (walked_of y)) (sym e) ∙ ap length_of w_is ∙ walk_end codes numbers few
 
 pub ruleset lengths = (length_many, length_refused, length_walked)

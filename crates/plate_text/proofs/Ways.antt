@@ -1,5 +1,6 @@
 -- What each way out of a function of this crate owes, as the code meets it: a premise for each test and for each call's result.
 -- Assumes nothing.
+use Rattle.std.specs.Prelude.{Ok, Err}
 use mathlib.Core.Path.{◌≡◌, refl, sym, ap, ap₂, ◌∙◌, subst}
 use mathlib.Core.Bool.{true}
 use mathlib.Core.List.{List, [], ◌∷◌, map}
@@ -16,7 +17,7 @@ use Rattle.command.specs.declared.Counts.{Counts}
 use Rattle.command.specs.declared.Counts.TheVariants.{Refused as NotDrawn, Of}
 use Rattle.command.specs.Commands.{codes_of, numbers_of, command_limit}
 use Rattle.command.specs.Refusals.{refusal_number}
-use Rattle.command.specs.Outcomes.{Outcome, refused, accepted, number_of, mapped, list_of, counts_number, first_count, second_count}
+use Rattle.command.specs.Outcomes.{Outcome, number_of, mapped, list_of, counts_number, first_count, second_count}
 use Rattle.command.specs.Buffers.{onto, in_buffers, fitted, Filled, FilledBoth}
 use Rattle.command.proofs.Outcomes.{refused_accepted, number_some, answered}
 use Rattle.command.proofs.Lists.{codes_length}
@@ -50,9 +51,9 @@ module _ (t t' : List ℕ) (e : t ≡ t') where
 
 -- ---- print_measured
 -- what is measured was accepted
-measured_list : (o : Outcome (List PathCommand)) (x : Float) → mapped path_length o ≡ accepted x → o ≡ accepted (list_of o)
-measured_list (refused r) x e = refused_accepted r x e
-measured_list (accepted cs) x e = refl
+measured_list : (o : Outcome (List PathCommand)) (x : Float) → mapped path_length o ≡ Ok x → o ≡ Ok (list_of o)
+measured_list (Err r) x e = refused_accepted r x e
+measured_list (Ok cs) x e = refl
 
 module _ (codes : List ℕ) (numbers : List Float) (m : Measured) (m_is : measured_of m ≡ measure_list codes numbers) (out out' : List ℕ) (n : ℕ) where
   abbrev text : List ℕ
@@ -70,7 +71,7 @@ module _ (codes : List ℕ) (numbers : List Float) (m : Measured) (m_is : measur
     measured_refusal_put = put (refusal_text r) text refusal_measured out out'
 
   module _ (x : Float) (e : m ≡ Length x) where
-    told : accepted x ≡ measure_list codes numbers
+    told : Ok x ≡ measure_list codes numbers
     told = sym (ap measured_of e) ∙ m_is
 
     pub measured_there : place_of (length codes) codes ≤ length numbers
@@ -100,8 +101,8 @@ unfolding fitted
 path_fits closed v count few = go (draw_path closed v count) refl
   where
     go : (o : Outcome (List PathCommand)) → draw_path closed v count ≡ o → fitted (in_buffers 258 1538) o ≡ o
-    go (refused r) e = refl
-    go (accepted cs) e =
+    go (Err r) e = refl
+    go (Ok cs) e =
         let s = drawn_path closed v count cs e in
         let a : length (codes_of cs) ≤ 258 = rw s.2 (omega (arith, path_codes closed v count s.0)) in
         let b : length (numbers_of cs) ≤ 1538 = rw s.2 (omega (arith, path_numbers closed v count s.0)) in
@@ -110,16 +111,16 @@ path_fits closed v count few = go (draw_path closed v count) refl
 -- a refusal is printed by its number
 refusal_text_lem : (r : Refusal) (o : Outcome (List PathCommand)) → refusal_number r ≡ number_of o → refusal_text r ≡ drawn_text o
 unfolding refusal_text drawn_text
-refusal_text_lem r (refused r') e = ap (λ (n : ℕ). line 8 (n ∷ [])) e
-refusal_text_lem r (accepted cs) e = let h = number_some r in absurd (omega arith)
+refusal_text_lem r (Err r') e = ap (λ (n : ℕ). line 8 (n ∷ [])) e
+refusal_text_lem r (Ok cs) e = let h = number_some r in absurd (omega arith)
 
 -- sound commands, measured and printed
-list_length : (cs : List PathCommand) → length cs ≤ 262144 → all_within command_limit (numbers_of cs) ≡ true → measure_list (codes_of cs) (numbers_of cs) ≡ accepted (path_length cs)
+list_length : (cs : List PathCommand) → length cs ≤ 262144 → all_within command_limit (numbers_of cs) ≡ true → measure_list (codes_of cs) (numbers_of cs) ≡ Ok (path_length cs)
 unfolding measure_list
 list_length cs few within = ap (mapped path_length) (list_judged cs few within)
 
 text_drawn : (cs : List PathCommand) → length cs ≤ 262144 → all_within command_limit (numbers_of cs) ≡ true
-    → measured_text (codes_of cs) (numbers_of cs) (measure_list (codes_of cs) (numbers_of cs)) ≡ drawn_text (accepted cs)
+    → measured_text (codes_of cs) (numbers_of cs) (measure_list (codes_of cs) (numbers_of cs)) ≡ drawn_text (Ok cs)
 unfolding measured_text drawn_text
 text_drawn cs few within = ap (measured_text (codes_of cs) (numbers_of cs)) (list_length cs few within) ∙ list_answer cs (path_length cs)
 
@@ -146,8 +147,8 @@ module _ (closed : ℕ) (v : List Float) (count : ℕ) (codes codes' : List ℕ)
   number_is = in_codes.number_is ∙ go o
     where
       go : (p : Outcome (List PathCommand)) → number_of (mapped codes_of p) ≡ number_of p
-      go (refused r) = refl
-      go (accepted cs) = refl
+      go (Err r) = refl
+      go (Ok cs) = refl
 
   module _ (out out' : List ℕ) (n : ℕ) where
     module _ (r : Refusal) (e : d ≡ NotDrawn r) where
@@ -164,7 +165,7 @@ module _ (closed : ℕ) (v : List Float) (count : ℕ) (codes codes' : List ℕ)
     abbrev cs : List PathCommand
     cs = list_of o
 
-    is_drawn : o ≡ accepted cs
+    is_drawn : o ≡ Ok cs
     is_drawn = answered o (sym (ap counts_number e) ∙ number_is) []
 
     splits : (0 < count) × (count ≤ 1024) × (cs ≡ path_commands closed v count)

@@ -1,5 +1,6 @@
 -- What each way out of a function of this crate owes, as the code meets it: a premise for each test and for each call's result.
 -- Assumes nothing.
+use Rattle.std.specs.Prelude.{Ok, Err}
 use mathlib.Core.Path.{◌≡◌, refl, sym, ap, ◌∙◌}
 use mathlib.Core.Bool.{Bool, true, false, not, ◌&&◌}
 use mathlib.Core.List.{List}
@@ -13,7 +14,7 @@ use Rattle.ieee.specs.Literal.{zero32}
 use Rattle.command.specs.declared.Refusal.{Refusal}
 use Rattle.command.specs.declared.Refusal.TheVariants.{TooMany, OutOfRange}
 use Rattle.command.specs.Refusals.{refusal_number}
-use Rattle.command.specs.Outcomes.{Outcome, refused, accepted}
+use Rattle.command.specs.Outcomes.{Outcome}
 use Rattle.measure.specs.Length.{start_pen, length_after, path_length}
 use Rattle.length.specs.declared.Until.TheVariants.{Length}
 use Rattle.length.specs.declared.Walked.{Walked}
@@ -34,8 +35,8 @@ length_asked least b e = ap (λ (x : Bool). x && le zero32 least) e
 
 -- ---- the walk from the start is the rule
 later_none : (o : Outcome (Bool × ℕ)) → later 0 o ≡ o
-later_none (refused r) = refl
-later_none (accepted (b, n)) = ap (λ (m : ℕ). accepted (b, m)) (zero-add n)
+later_none (Err r) = refl
+later_none (Ok (b, n)) = ap (λ (m : ℕ). Ok (b, m)) (zero-add n)
 
 walk_ruled : (codes : List ℕ) (numbers : List Float) (least : Float) → length codes ≤ 262144
     → told (walk_from (Length least) start_pen 0 codes numbers) ≡ ruled codes numbers least
@@ -47,11 +48,11 @@ walk_ruled codes numbers least few =
 
 -- ---- length_reaches
 module _ (codes : List ℕ) (numbers : List Float) (least : Float) where
-  pub too_many : 262144 < length codes → refused TooMany ≡ length_reaches codes numbers least
+  pub too_many : 262144 < length codes → Err TooMany ≡ length_reaches codes numbers least
   too_many many = sym (reach_many codes numbers least many)
 
   module _ (few : length codes ≤ 262144) (b : Bool) (b_is : b ≡ is_length least) where
-    pub no_length : not b ≡ true → refused OutOfRange ≡ length_reaches codes numbers least
+    pub no_length : not b ≡ true → Err OutOfRange ≡ length_reaches codes numbers least
     no_length e = sym (reach_unasked codes numbers least few (sym b_is ∙ not-true b e))
 
     module _ (e : not b ≡ false) (w : Walked) (w_is : walked_of w ≡ walk_from (Length least) start_pen 0 codes numbers) where
@@ -59,17 +60,17 @@ module _ (codes : List ℕ) (numbers : List Float) (least : Float) where
       walked_ruled =
           ap told w_is ∙ walk_ruled codes numbers least few ∙ sym (reach_passed codes numbers least few (sym b_is ∙ not-false b e))
 
-      pub walk_refused : (r : Refusal) → w ≡ walked.Refused r → refused r ≡ length_reaches codes numbers least
+      pub walk_refused : (r : Refusal) → w ≡ walked.Refused r → Err r ≡ length_reaches codes numbers least
       walk_refused r f = ap (λ (x : Walked). told (walked_of x)) (sym f) ∙ walked_ruled
 
       module _ (reached : Bool) (n : ℕ) (x : Float) (f : w ≡ walked.To reached n x) where
-        replied : accepted (reached, n) ≡ length_reaches codes numbers least
+        replied : Ok (reached, n) ≡ length_reaches codes numbers least
         replied = ap (λ (y : Walked). told (walked_of y)) (sym f) ∙ walked_ruled
 
-        pub walk_reached : reached ≡ true → accepted (true, n) ≡ length_reaches codes numbers least
+        pub walk_reached : reached ≡ true → Ok (true, n) ≡ length_reaches codes numbers least
         walk_reached g = rw g at replied
 
-        pub walk_ended : reached ≡ false → accepted (false, n) ≡ length_reaches codes numbers least
+        pub walk_ended : reached ≡ false → Ok (false, n) ≡ length_reaches codes numbers least
         walk_ended g = rw g at replied
 
 pub ruleset reaching = (length_asked, too_many, no_length, walk_refused, walk_reached, walk_ended)
