@@ -34,12 +34,7 @@ use Rattle.command.proofs.Buffers.{sets_append, fitted_accepted, fitted_refused,
 use Rattle.matrix.specs.declared.Matrix.{Matrix}
 use Rattle.repeater.specs.declared.RepeaterStyle.{RepeaterStyle}
 use Rattle.repeater.specs.Repeater.{most_copies, most_offset, copy_count, copy_transform, copy_opacity}
-use Rattle.command.specs.declared.Verdict.{Verdict}
-use Rattle.command.specs.declared.Verdict.TheVariants.{Refused, Passed}
-use Rattle.command.specs.Verdicts.{verdict_of}
 use Rattle.command.proofs.Verdicts.{behind_refused, behind_passed, all_pass}
-use Rattle.copies.specs.declared.Written.{Written}
-use Rattle.copies.specs.Outcomes.{written_number, written_count}
 use Rattle.copies.specs.Order.{rising, falling, order_of, copy_order}
 use Rattle.copies.specs.Calls.{repeater_numbers, has_too_many, repeater_limit, repeater_checks}
 use Rattle.copies.specs.Calls.{order_answer, copy_numbers, all_finite, copy_answer, transform_answer}
@@ -55,16 +50,16 @@ module _ (r : RepeaterStyle) where
   many_copies h = rw h
 
   module _ (x : Bool) (x_is : x ≡ has_too_many r) where
-    pub verdict_many : x ≡ true → verdict_of (Refused TooMany) ≡ checked (repeater_checks r) (Ok tt)
+    pub verdict_many : x ≡ true → (Err TooMany) ≡ checked (repeater_checks r) (Ok tt)
     unfolding repeater_checks
     verdict_many t = rw (sym x_is ∙ t)
 
     module _ (few : x ≡ false) (y : Bool) (y_is : y ≡ all_within repeater_limit (repeater_numbers r)) where
-      pub verdict_beyond : y ≡ false → verdict_of (Refused OutOfRange) ≡ checked (repeater_checks r) (Ok tt)
+      pub verdict_beyond : y ≡ false → (Err OutOfRange) ≡ checked (repeater_checks r) (Ok tt)
       unfolding repeater_checks
       verdict_beyond t = rw (sym x_is ∙ few, sym y_is ∙ t)
 
-      pub verdict_passed : y ≡ true → verdict_of Passed ≡ checked (repeater_checks r) (Ok tt)
+      pub verdict_passed : y ≡ true → Ok tt ≡ checked (repeater_checks r) (Ok tt)
       unfolding repeater_checks
       verdict_passed t = rw (sym x_is ∙ few, sym y_is ∙ t)
 
@@ -312,8 +307,8 @@ module _ (r : RepeaterStyle) (pass : AllPass (repeater_checks r)) where
   count_few = few r.copies (within_number r.copies copies_within) not_many.0
 
 -- ---- copy_order, copy_transform
-module _ (r : RepeaterStyle) (v : Verdict) (v_is : verdict_of v ≡ checked (repeater_checks r) (Ok tt)) where
-  module _ (f : Refusal) (e : v ≡ Refused f) where
+module _ (r : RepeaterStyle) (v : Outcome (Unit {0})) (v_is : v ≡ checked (repeater_checks r) (Ok tt)) where
+  module _ (f : Refusal) (e : v ≡ Err f) where
     pub order_refused : (l : List ℕ) → Filled (fitted (in_buffer (length l)) (order_answer r)) (refusal_number f) 0 l l
     unfolding order_answer
     order_refused l = turned_back l f (order_answer r) (behind_refused (repeater_checks r) v v_is f e (Ok (copy_order r)))
@@ -322,7 +317,7 @@ module _ (r : RepeaterStyle) (v : Verdict) (v_is : verdict_of v ≡ checked (rep
     unfolding transform_answer
     copy_refused copy l = turned_back l f (transform_answer r copy) (behind_refused (repeater_checks r) v v_is f e (copy_answer r copy))
 
-  module _ (e : v ≡ Passed) where
+  module _ (e : v ≡ Ok tt) where
     pub repeater_passed : AllPass (repeater_checks r)
     repeater_passed = all_pass (repeater_checks r) v v_is e
 
@@ -391,12 +386,12 @@ module _ (r : RepeaterStyle) (pass : AllPass (repeater_checks r)) (n : ℕ) (n_i
 pub ruleset sounds = (copies_within, offset_within, rotation_within, copy_missing, copy_few, copy_small, copy_told)
 
 -- ---- callers that tell the answer in a number and a count
-module _ (r r' : RepeaterStyle) (e : r ≡ r') (w : Written) (number count : ℕ) (number_is : number ≡ written_number w) (count_is : count ≡ written_count w) where
-  pub order_told : (l l' : List ℕ) → Filled (fitted (in_buffer (length l)) (order_answer r)) (written_number w) (written_count w) l l'
+module _ (r r' : RepeaterStyle) (e : r ≡ r') (w : Outcome ℕ) (number count : ℕ) (number_is : number ≡ number_of w) (count_is : count ≡ value_or 0 w) where
+  pub order_told : (l l' : List ℕ) → Filled (fitted (in_buffer (length l)) (order_answer r)) (number_of w) (value_or 0 w) l l'
       → Filled (fitted (in_buffer (length l)) (order_answer r')) number count l l'
   order_told l l' F = rw (number_is, count_is, ← e) F
 
-  pub transform_told : (copy : ℕ) (l l' : List Float) → Filled (fitted (in_buffer (length l)) (transform_answer r copy)) (written_number w) (written_count w) l l'
+  pub transform_told : (copy : ℕ) (l l' : List Float) → Filled (fitted (in_buffer (length l)) (transform_answer r copy)) (number_of w) (value_or 0 w) l l'
       → Filled (fitted (in_buffer (length l)) (transform_answer r' copy)) number count l l'
   transform_told copy l l' F = rw (number_is, count_is, ← e) F
 

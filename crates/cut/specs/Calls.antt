@@ -9,10 +9,6 @@ use Rattle.length.specs.Lists.{measure_list}
 use Rattle.trim.specs.declared.TrimStyle.{TrimStyle}
 use Rattle.trim.specs.declared.Ranges.{Ranges}
 use Rattle.trim.specs.Trim.{normalized_trim_segments}
-use Rattle.cut.specs.declared.Shown.{Shown}
-use Rattle.cut.specs.declared.Shown.TheVariants as shown
-use Rattle.cut.specs.declared.Trimmed.{Trimmed}
-use Rattle.cut.specs.declared.Trimmed.TheVariants as trimmed
 
 -- start, end and offset need only be finite
 unfoldable pub is_finite_trim : TrimStyle → Bool
@@ -40,12 +36,3 @@ trim_checks trim = (not (is_finite_trim trim) gives OutOfRange) ∷ (not (is_tri
 
 unfoldable pub trim_lengths : TrimStyle → List ℕ → List Float → Outcome (Float × Ranges)
 trim_lengths trim codes numbers = checked (trim_checks trim) (and_then (measure_list codes numbers) (cut_measured trim))
-
--- the outcomes that a `Shown` and a `Trimmed` are
-abbrev pub shown_of : Shown → Outcome Ranges
-shown_of (shown.Refused r) = Err r
-shown_of (shown.Visible ranges) = Ok ranges
-
-abbrev pub trimmed_of : Trimmed → Outcome (Float × Ranges)
-trimmed_of (trimmed.Refused r) = Err r
-trimmed_of (trimmed.Cut total ranges) = Ok (total, ranges)

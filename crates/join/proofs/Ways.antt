@@ -16,11 +16,9 @@ use borrow.Author.Tests.{lt-leb, le-leb}
 use Rattle.command.specs.declared.PathCommand.{PathCommand}
 use Rattle.command.specs.declared.Refusal.{Refusal}
 use Rattle.command.specs.declared.Refusal.TheVariants.{BufferTooSmall}
-use Rattle.command.specs.declared.Counts.{Counts}
-use Rattle.command.specs.declared.Counts.TheVariants.{Refused, Of}
 use Rattle.command.specs.Commands.{codes_of, numbers_of}
 use Rattle.command.specs.Refusals.{refusal_number}
-use Rattle.command.specs.Outcomes.{Outcome, list_of, counts_of, counts_number, first_count, second_count}
+use Rattle.command.specs.Outcomes.{Outcome, list_of}
 use Rattle.command.specs.Buffers.{in_buffers, fitted, FilledBoth, size_of, need_of}
 use Rattle.command.proofs.Outcomes.{refused_accepted}
 use Rattle.command.proofs.Lists.{codes_length, codes_append, numbers_append}
@@ -29,8 +27,6 @@ use Rattle.shape.specs.declared.Shape.{Shape}
 use Rattle.shape.specs.Shape.{shape_commands}
 use Rattle.item.specs.declared.ItemRow.{ItemRow}
 use Rattle.item.specs.Rows.{item_row, entries_of}
-use Rattle.draw.specs.declared.Checked.{Checked}
-use Rattle.draw.specs.declared.Checked.TheVariants.{Fault, Sound}
 use Rattle.draw.specs.Checks.{outcome_of}
 use Rattle.draw.specs.Items.{has_no_vertices, shape_drawn, draw_source}
 use Rattle.draw.proofs.Ways.{sound_place, sound_fit, tail}
@@ -55,10 +51,10 @@ module _ (row : ItemRow) (items : List Float) (t : Bool) (is : t ≡ is_source_r
   unfolding draw_row
   row_other h = rw (← is, h)
 
-  pub need_of_source : (r : Counts) → t ≡ true → counts_of r ≡ need_of (draw_source row items) → counts_of r ≡ need_of (draw_row row items)
+  pub need_of_source : (r : Outcome Size) → t ≡ true → r ≡ need_of (draw_source row items) → r ≡ need_of (draw_row row items)
   need_of_source r h e = e ∙ ap need_of (sym (row_source h))
 
-  pub need_of_other : t ≡ false → counts_of (Of 0 0) ≡ need_of (draw_row row items)
+  pub need_of_other : t ≡ false → (Ok (record { codes = 0; numbers = 0 })) ≡ need_of (draw_row row items)
   need_of_other h = rw (row_other h)
 
 pub ruleset row_needs = (need_of_source, need_of_other)
@@ -76,12 +72,12 @@ need_refused (Err q) p r e = sym e
 need_refused (Ok cs) p r e = refused_accepted r (size_of cs) e
 
 -- what a need that is told says of the drawing
-need_told : (o : Outcome (List PathCommand)) (c n : ℕ) → counts_of (Of c n) ≡ need_of o → (o ≡ Ok (list_of o)) × (c ≡ length (codes_in o)) × (n ≡ length (numbers_in o))
+need_told : (o : Outcome (List PathCommand)) (c n : ℕ) → (Ok (record { codes = c; numbers = n })) ≡ need_of o → (o ≡ Ok (list_of o)) × (c ≡ length (codes_in o)) × (n ≡ length (numbers_in o))
 need_told o c n e =
     let d = drawn_needs o (c, n) (sym e) in
     (d.0, sym (ap (λ (k : ℕ × ℕ). k.0) d.1), sym (ap (λ (k : ℕ × ℕ). k.1) d.1))
 
-pub need_room : (o p : Outcome (List PathCommand)) (c n : ℕ) → counts_of (Of c n) ≡ need_of o → need_of (followed_by o p) ≡ need_after c n (need_of p)
+pub need_room : (o p : Outcome (List PathCommand)) (c n : ℕ) → (Ok (record { codes = c; numbers = n })) ≡ need_of o → need_of (followed_by o p) ≡ need_after c n (need_of p)
 unfolding followed_by need_after
 need_room (Err q) p c n e = refused_accepted q (c, n) (sym e)
 need_room (Ok cs) (Err r) c n e = refl
@@ -91,7 +87,7 @@ need_room (Ok cs) (Ok ds) c n e =
     ap length (codes_append cs ds) ∙ length-append (codes_of cs) (codes_of ds) ∙ ap (λ (k : ℕ). k + length (codes_of ds)) (sym s.1) in
     let b : length (numbers_of (cs ++ ds)) ≡ n + length (numbers_of ds) =
     ap length (numbers_append cs ds) ∙ length-append (numbers_of cs) (numbers_of ds) ∙ ap (λ (k : ℕ). k + length (numbers_of ds)) (sym s.2) in
-    (λ i. counts_of (Of (a i) (b i)))
+    (λ i. (Of (a i) (b i)))
 
 after_after : (a b c d : ℕ) (x : Outcome (ℕ × ℕ)) → need_after a b (need_after c d x) ≡ need_after (a + c) (b + d) x
 unfolding need_after
@@ -99,21 +95,21 @@ after_after a b c d (Err r) = refl
 after_after a b c d (Ok m) =
     let e : a + (c + m.0) ≡ a + c + m.0 = omega arith in
     let f : b + (d + m.1) ≡ b + d + m.1 = omega arith in
-    (λ i. counts_of (Of (e i) (f i)))
+    (λ i. (Of (e i) (f i)))
 
 after_none : (x : Outcome (ℕ × ℕ)) → need_after 0 0 x ≡ x
 unfolding need_after
 after_none (Err r) = refl
-after_none (Ok m) = λ i. counts_of (Of (zero-add m.0 i) (zero-add m.1 i))
+after_none (Ok m) = λ i. (Of (zero-add m.0 i) (zero-add m.1 i))
 
 -- ---- rows_need
 
 -- a row has at most 1,026 commands of at most 6 numbers
-row_few : (row : ItemRow) (items : List Float) (c n : ℕ) → counts_of (Of c n) ≡ need_of (draw_row row items) → (c ≤ 1026) × (n ≤ 6156)
+row_few : (row : ItemRow) (items : List Float) (c n : ℕ) → (Ok (record { codes = c; numbers = n })) ≡ need_of (draw_row row items) → (c ≤ 1026) × (n ≤ 6156)
 unfolding draw_row
 row_few row items c n = go (is_source_row row)
   where
-    go : (b : Bool) → counts_of (Of c n) ≡ need_of (cond b (draw_source row items) (Ok [])) → (c ≤ 1026) × (n ≤ 6156)
+    go : (b : Bool) → (Ok (record { codes = c; numbers = n })) ≡ need_of (cond b (draw_source row items) (Ok [])) → (c ≤ 1026) × (n ≤ 6156)
     go true f =
         let s = need_told (draw_source row items) c n f in
         let cs = list_of (draw_source row items) in
@@ -150,26 +146,26 @@ module _ (rows : List ℕ) (m : ℕ) (items : List Float) where
     pub row_inside : i < m → m ≤ 256 → 6 * m ≤ length rows → 6 * i + 6 ≤ length rows
     row_inside h few inside = omega arith
 
-    module _ (h : i < m) (row : ItemRow) (row_is : row ≡ item_row rows i) (need : Counts) (need_is : counts_of need ≡ need_of (draw_row row items)) where
+    module _ (h : i < m) (row : ItemRow) (row_is : row ≡ item_row rows i) (need : Outcome Size) (need_is : need ≡ need_of (draw_row row items)) where
       abbrev here : Outcome (List PathCommand)
       here = draw_row (item_row rows i) items
 
       abbrev later : Outcome (List PathCommand)
       later = draw_rows (rows_from rows (i + 1) (m - (i + 1))) items
 
-      need_at : counts_of need ≡ need_of here
+      need_at : need ≡ need_of here
       need_at = need_is ∙ ap (λ (r : ItemRow). need_of (draw_row r items)) row_is
 
       split_need : need_after codes numbers (need_of (followed_by here later)) ≡ need_of (draw_rows (rows_from rows 0 m) items)
       split_need = ap (λ (o : Outcome (List PathCommand)). need_after codes numbers (need_of o)) (sym (rows_split i h)) ∙ w.rest
 
-      pub needing_refused : (r : Refusal) → need ≡ Refused r → Err r ≡ need_of (draw_rows (rows_from rows 0 m) items)
+      pub needing_refused : (r : Refusal) → need ≡ Err r → Err r ≡ need_of (draw_rows (rows_from rows 0 m) items)
       unfolding need_after
-      needing_refused r e = sym (ap (need_after codes numbers) (need_refused here later r (sym (ap counts_of e) ∙ need_at))) ∙ split_need
+      needing_refused r e = sym (ap (need_after codes numbers) (need_refused here later r (sym (e) ∙ need_at))) ∙ split_need
 
-      module _ (c n : ℕ) (e : need ≡ Of c n) where
-        told : counts_of (Of c n) ≡ need_of here
-        told = sym (ap counts_of e) ∙ need_at
+      module _ (c n : ℕ) (e : need ≡ Ok (record { codes = c; numbers = n })) where
+        told : (Ok (record { codes = c; numbers = n })) ≡ need_of here
+        told = sym (e) ∙ need_at
 
         few : (c ≤ 1026) × (n ≤ 6156)
         few = row_few (item_row rows i) items c n told
@@ -188,10 +184,10 @@ module _ (rows : List ℕ) (m : ℕ) (items : List Float) where
           few_numbers = omega (arith, few.1);
         }
 
-    pub needing_end : m ≤ i → counts_of (Of codes numbers) ≡ need_of (draw_rows (rows_from rows 0 m) items)
+    pub needing_end : m ≤ i → (Ok (record { codes = codes; numbers = numbers })) ≡ need_of (draw_rows (rows_from rows 0 m) items)
     unfolding need_after
     needing_end h =
-        sym (λ k. counts_of (Of (add-zero codes k) (add-zero numbers k)))
+        sym (λ k. (Of (add-zero codes k) (add-zero numbers k)))
         ∙ ap (λ (o : Outcome (List PathCommand)). need_after codes numbers (need_of o)) (sym (rows_over i h))
         ∙ w.rest
 
@@ -217,21 +213,21 @@ module _ (row : ItemRow) (items : List Float) (t : Bool) (is : t ≡ is_source_r
     row_entries = row_met.passed.inside
 
     -- the shape that is made draws what the row draws
-    module _ (k : Checked) (k_is : outcome_of k items ≡ shape_drawn row (drop row.place items)) where
+    module _ (k : Outcome (ℕ × Shape)) (k_is : outcome_of k items ≡ shape_drawn row (drop row.place items)) where
       row_drawn_as : outcome_of k items ≡ Ok (list_of (draw_row row items))
       row_drawn_as = k_is ∙ row_met.drawn
 
-      pub row_not_refused : (r : Refusal) → k ≡ Fault r → {A : Type 0} → A
+      pub row_not_refused : (r : Refusal) → k ≡ Err r → {A : Type 0} → A
       unfolding outcome_of
-      row_not_refused r e = refused_accepted r (list_of (draw_row row items)) (ap (λ (x : Checked). outcome_of x items) (sym e) ∙ row_drawn_as)
+      row_not_refused r e = refused_accepted r (list_of (draw_row row items)) (ap (λ (x : Outcome (ℕ × Shape)). outcome_of x items) (sym e) ∙ row_drawn_as)
 
-      module _ (place : ℕ) (s : Shape) (e : k ≡ Sound place s) where
+      module _ (place : ℕ) (s : Shape) (e : k ≡ Ok (place, s)) where
         abbrev part : List Float
         part = take (length items - place) (drop place items)
 
         row_commands : shape_commands s part ≡ list_of (draw_row row items)
         unfolding outcome_of
-        row_commands = ap (shape_commands s) (tail items place) ∙ ap list_of (ap (λ (x : Checked). outcome_of x items) (sym e) ∙ row_drawn_as)
+        row_commands = ap (shape_commands s) (tail items place) ∙ ap list_of (ap (λ (x : Outcome (ℕ × Shape)). outcome_of x items) (sym e) ∙ row_drawn_as)
 
         pub row_codes_room : (i n : ℕ) → i + length (codes_in (draw_row row items)) ≤ n → i + length (codes_of (shape_commands s part)) ≤ n
         row_codes_room i n room = rw row_commands room
@@ -390,21 +386,21 @@ module _ (rows : List ℕ) (m : ℕ) (items : List Float) (codes₀ : List ℕ) 
 pub ruleset rows_writes = (joining_start, row_there, codes_joined, numbers_joined, row_drawn, codes_there, numbers_there, joining_more)
 
 -- ---- join_rows
-module _ (o : Outcome (List PathCommand)) (codes : List ℕ) (numbers : List Float) (need : Counts) (is : counts_of need ≡ need_of o) where
+module _ (o : Outcome (List PathCommand)) (codes : List ℕ) (numbers : List Float) (need : Outcome Size) (is : need ≡ need_of o) where
   abbrev fits : List PathCommand → Bool
   fits = in_buffers (length codes) (length numbers)
 
-  pub need_unfilled : (r : Refusal) → need ≡ Refused r → FilledBoth (fitted fits o) (refusal_number r) 0 0 codes codes numbers numbers
+  pub need_unfilled : (r : Refusal) → need ≡ Err r → FilledBoth (fitted fits o) (refusal_number r) 0 0 codes codes numbers numbers
   unfolding fitted
-  need_unfilled r e = go o (sym (ap counts_of e) ∙ is)
+  need_unfilled r e = go o (sym (e) ∙ is)
     where
       go : (p : Outcome (List PathCommand)) → Err r ≡ need_of p → FilledBoth (fitted fits p) (refusal_number r) 0 0 codes codes numbers numbers
       go (Err q) f = let x : r ≡ q = cc in rw x (both_unfilled q codes numbers)
       go (Ok cs) f = refused_accepted r (size_of cs) f
 
-  module _ (c n : ℕ) (e : need ≡ Of c n) where
+  module _ (c n : ℕ) (e : need ≡ Ok (record { codes = c; numbers = n })) where
     told_here : (o ≡ Ok (list_of o)) × (c ≡ length (codes_in o)) × (n ≡ length (numbers_in o))
-    told_here = need_told o c n (sym (ap counts_of e) ∙ is)
+    told_here = need_told o c n (sym (e) ∙ is)
 
     pub need_drawn : is_accepted o ≡ true
     need_drawn = rw told_here.0
@@ -489,12 +485,12 @@ module _ (rows : List ℕ) (n : ℕ) (items : List Float) (k : Decision) (is : s
     pub merge_inside : Settled rows k → 6 * m ≤ length rows
     merge_inside s = (joined_settled s).1
 
-    pub merge_joined : (codes codes' : List ℕ) (numbers numbers' : List Float) (r : Counts)
-        → FilledBoth (fitted (in_buffers (length codes) (length numbers)) (draw_rows (rows_from rows 0 m) items)) (counts_number r) (first_count r) (second_count r) codes codes' numbers numbers'
-        → FilledBoth (fitted (in_buffers (length codes) (length numbers)) merged) (counts_number r) (first_count r) (second_count r) codes codes' numbers numbers'
+    pub merge_joined : (codes codes' : List ℕ) (numbers numbers' : List Float) (r : Outcome Size)
+        → FilledBoth (fitted (in_buffers (length codes) (length numbers)) (draw_rows (rows_from rows 0 m) items)) (number_of r) (codes_told r) (numbers_told r) codes codes' numbers numbers'
+        → FilledBoth (fitted (in_buffers (length codes) (length numbers)) merged) (number_of r) (codes_told r) (numbers_told r) codes codes' numbers numbers'
     merge_joined codes codes' numbers numbers' r f = rw (← joined_is) f
 
-    pub merge_need_joined : (r : Counts) → counts_of r ≡ need_of (draw_rows (rows_from rows 0 m) items) → counts_of r ≡ need_of merged
+    pub merge_need_joined : (r : Outcome Size) → r ≡ need_of (draw_rows (rows_from rows 0 m) items) → r ≡ need_of merged
     merge_need_joined r f = f ∙ ap need_of joined_is
 
 pub ruleset merges = (merge_refused, merge_few, merge_inside, merge_joined)

@@ -15,9 +15,7 @@ use Rattle.command.specs.declared.PathCommand.{PathCommand}
 use Rattle.command.specs.declared.Refusal.{Refusal}
 use Rattle.command.specs.declared.Refusal.TheVariants.{TooMany, OutOfBounds}
 use Rattle.command.specs.Outcomes.{Outcome, mapped, and_then}
-use Rattle.reader.specs.declared.Read.{Read}
-use Rattle.reader.specs.declared.Read.TheVariants.{Refused, Command}
-use Rattle.reader.specs.Read.{size_of_code, read_command, read_of, read_from}
+use Rattle.reader.specs.Read.{size_of_code, read_command, read_from}
 use Rattle.reader.proofs.Commands.{Taken, read_refused, read_taken}
 use Rattle.judge.specs.Lists.{in_front, read_list, judge_list}
 
@@ -51,7 +49,7 @@ module _ {S B : Type 0} (fold : S → List PathCommand → B) (codes : List ℕ)
     abbrev v : List Float
     v = drop place numbers
 
-    module _ (h : i < length codes) (read : Read) (read_is : read_of read ≡ read_from (get_or codes i 0) numbers place) where
+    module _ (h : i < length codes) (read : Outcome (PathCommand × ℕ)) (read_is : read ≡ read_from (get_or codes i 0) numbers place) where
       abbrev c : ℕ
       c = get_or codes i 0
 
@@ -62,13 +60,13 @@ module _ {S B : Type 0} (fold : S → List PathCommand → B) (codes : List ℕ)
       unfolding read_list
       here = ap (λ (l : List ℕ). mapped (fold now) (read_list l v)) (sym (drop-cons codes i 0 h)) ∙ left.whole
 
-      pub walk_refused : length codes ≤ 262144 → (r : Refusal) → read ≡ Refused r → Err r ≡ mapped (fold first) (judge_list codes numbers)
+      pub walk_refused : length codes ≤ 262144 → (r : Refusal) → read ≡ Err r → Err r ≡ mapped (fold first) (judge_list codes numbers)
       walk_refused few r e =
           sym (ap (λ (o : Outcome PathCommand). mapped (fold now) (and_then o (in_front rest))) (read_refused c numbers place read read_is r e))
           ∙ here
           ∙ list_few few
 
-      module _ (p : PathCommand) (next : ℕ) (e : read ≡ Command p next) where
+      module _ (p : PathCommand) (next : ℕ) (e : read ≡ Ok (p, next)) where
         taken : Taken c numbers place p next
         taken = read_taken c numbers place read read_is left.inside p next e
 

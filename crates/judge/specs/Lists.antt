@@ -4,8 +4,6 @@ use Rattle.command.specs.declared.PathCommand.{PathCommand}
 use Rattle.command.specs.declared.Refusal.TheVariants.{TooMany, OutOfBounds}
 use Rattle.command.specs.Outcomes.{Outcome, number_of, mapped, and_then, list_of, ◌gives◌, checked}
 use Rattle.reader.specs.Read.{size_of_code, read_command}
-use Rattle.judge.specs.declared.Judged.{Judged}
-use Rattle.judge.specs.declared.Judged.TheVariants.{Fault, Sound}
 
 -- ---- the list
 
@@ -25,11 +23,7 @@ most_commands = 262144
 unfoldable pub judge_list : List ℕ → List Float → Outcome (List PathCommand)
 judge_list codes numbers = checked ((ltb most_commands (length codes) gives TooMany) ∷ []) (read_list codes numbers)
 
--- the outcome that a `Judged` is, and an outcome without its commands
-abbrev pub judged_of : Judged → Outcome (Unit {0})
-judged_of (Fault r) = Err r
-judged_of Sound = Ok tt
-
+-- an outcome without its commands
 abbrev pub without_commands : Outcome (List PathCommand) → Outcome (Unit {0})
 without_commands o = mapped (λ (cs : List PathCommand). tt) o
 

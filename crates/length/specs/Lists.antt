@@ -3,14 +3,7 @@ use Rattle.std.specs.Prelude.{ℕ, List, Float, Ok, Err}
 use Rattle.command.specs.Outcomes.{Outcome, mapped}
 use Rattle.judge.specs.Lists.{judge_list}
 use Rattle.measure.specs.Length.{path_length}
-use Rattle.length.specs.declared.Measured.{Measured}
-use Rattle.length.specs.declared.Measured.TheVariants.{Refused, Length}
 
 -- the list is judged, then measured; an empty list has length 0
 unfoldable pub measure_list : List ℕ → List Float → Outcome Float
 measure_list codes numbers = mapped path_length (judge_list codes numbers)
-
--- the outcome that a `Measured` is
-abbrev pub measured_of : Measured → Outcome Float
-measured_of (Refused r) = Err r
-measured_of (Length x) = Ok x

@@ -1,6 +1,6 @@
 -- A walk up to a length tells what the rule of the fewest gives.
 -- Assumes nothing.
-use Rattle.std.specs.Prelude.{Ok, Err}
+use Rattle.std.specs.Prelude.{Some, Ok, Err}
 use mathlib.Core.Path.{◌≡◌, refl, sym, ap, ◌∙◌}
 use mathlib.Core.Bool.{Bool, true, false, cond}
 use mathlib.Core.List.{List, [], ◌∷◌}
@@ -17,7 +17,6 @@ use Rattle.reader.specs.Read.{size_of_code, read_command}
 use Rattle.judge.specs.Lists.{in_front, read_list}
 use Rattle.measure.specs.declared.Pen.{Pen}
 use Rattle.measure.specs.Length.{step, steps}
-use Rattle.length.specs.declared.Until.TheVariants.{Length}
 use Rattle.length.specs.Walk.{is_there, walk_from}
 use Rattle.length.proofs.Walks.{length_from}
 use Rattle.reach.specs.Reach.{one_more, fewest, yes_or_no}
@@ -97,7 +96,7 @@ unfolding yes_or_no
 stopped n last all test r h = rw (fewest_none test last (λ m l. h m))
 
 pub walk_is : (least : Float) (pen : Pen) (n : ℕ) (codes : List ℕ) (v : List Float)
-    → told (walk_from (Length least) pen n codes v)
+    → told (walk_from (Some least) pen n codes v)
     ≡ later n (yes_or_no (fewest (enough_from pen codes v least) (length codes)) (length codes) (mapped (length_from pen) (read_list codes v)))
 unfolding walk_from is_there read_list
 walk_is least pen n [] v = go (le least pen.length) (enough_none pen [] v least)
@@ -116,7 +115,7 @@ walk_is least pen n (c ∷ cs) v =
 
     -- the walk after this command, and the rule for the commands after it, from a pen on
     rest_walked : Pen → Outcome (Bool × ℕ × Float)
-    rest_walked at = walk_from (Length least) at (suc n) cs rest
+    rest_walked at = walk_from (Some least) at (suc n) cs rest
 
     rest_ruled : Pen → Outcome (Bool × ℕ)
     rest_ruled at = later (suc n) (yes_or_no (fewest (enough_from at cs rest least) (length cs)) (length cs) (mapped (length_from at) (read_list cs rest)))

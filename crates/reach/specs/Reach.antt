@@ -9,8 +9,6 @@ use Rattle.command.specs.declared.Refusal.TheVariants.{TooMany, OutOfRange}
 use Rattle.command.specs.Outcomes.{Outcome, mapped, value_or, Check, ◌gives◌, checked, Told}
 use Rattle.judge.specs.Lists.{most_commands, place_of}
 use Rattle.length.specs.Lists.{measure_list}
-use Rattle.reach.specs.declared.Reply.{Reply}
-use Rattle.reach.specs.declared.Reply.TheVariants.{Refused, Yes, No}
 
 -- ---- 'the fewest whose length is at least L'
 
@@ -51,12 +49,6 @@ reach_checks codes least = (ltb most_commands (length codes) gives TooMany) ∷ 
 unfoldable pub length_reaches : List ℕ → List Float → Float → Outcome (Bool × ℕ)
 length_reaches codes numbers least =
     checked (reach_checks codes least) (yes_or_no (fewest (long_enough codes numbers least) (length codes)) (length codes) (measure_list codes numbers))
-
--- the outcome that a `Reply` is
-abbrev pub reply_of : Reply → Outcome (Bool × ℕ)
-reply_of (Refused r) = Err r
-reply_of (Yes n) = Ok (true, n)
-reply_of (No n) = Ok (false, n)
 
 -- ---- what the call promises
 

@@ -18,9 +18,7 @@ use Rattle.command.specs.Commands.{code_of, coordinates_of, command_limit}
 use Rattle.command.specs.declared.Refusal.{Refusal}
 use Rattle.command.specs.Outcomes.{Outcome, mapped, value_or}
 use Rattle.command.proofs.Outcomes.{refused_accepted, checks_passed}
-use Rattle.reader.specs.declared.Read.{Read}
-use Rattle.reader.specs.declared.Read.TheVariants.{Refused, Command}
-use Rattle.reader.specs.Read.{size_of_code, command_at, command_checks, read_command, read_from, read_of}
+use Rattle.reader.specs.Read.{size_of_code, command_at, command_checks, read_command, read_from}
 
 pub size_of : (c : PathCommand) → size_of_code (code_of c) ≡ length (coordinates_of c)
 unfolding size_of_code
@@ -179,13 +177,13 @@ module _ (code : ℕ) (numbers : List Float) (place : ℕ) where
     pub inside : next ≤ length numbers
     pub rest : drop next numbers ≡ drop (size_of_code code) (drop place numbers)
 
-  module _ (read : Read) (is : read_of read ≡ read_from code numbers place) where
-    pub read_refused : (r : Refusal) → read ≡ Refused r → read_command code (drop place numbers) ≡ Err r
-    read_refused r e = refused_from r (sym (ap read_of e) ∙ is)
+  module _ (read : Outcome (PathCommand × ℕ)) (is : read ≡ read_from code numbers place) where
+    pub read_refused : (r : Refusal) → read ≡ Err r → read_command code (drop place numbers) ≡ Err r
+    read_refused r e = refused_from r (sym (e) ∙ is)
 
-    pub read_taken : place ≤ length numbers → (command : PathCommand) (next : ℕ) → read ≡ Command command next → Taken command next
+    pub read_taken : place ≤ length numbers → (command : PathCommand) (next : ℕ) → read ≡ Ok (command, next) → Taken command next
     read_taken h command next e =
-        let on = accepted_from (command, next) (sym (ap read_of e) ∙ is) in
+        let on = accepted_from (command, next) (sym (e) ∙ is) in
         let l = (accepted_read code (drop place numbers) command on.0).inside in
         record {
           read_is = on.0;

@@ -7,8 +7,6 @@ use Rattle.command.specs.declared.PathCommand.TheVariants.{Move, Line, Cubic, Cl
 use Rattle.command.specs.declared.Refusal.TheVariants.{OutOfRange, Unlisted, OutOfBounds}
 use Rattle.command.specs.Commands.{command_limit}
 use Rattle.command.specs.Outcomes.{Outcome, mapped, Check, ◌gives◌, checked}
-use Rattle.reader.specs.declared.Read.{Read}
-use Rattle.reader.specs.declared.Read.TheVariants.{Refused, Command}
 
 -- how many numbers a command has: move 0 and line 1 two, cubic 2 six, close 3 none, quad 4 four
 unfoldable pub size_of_code : ℕ → ℕ
@@ -37,8 +35,3 @@ read_command c v = checked (command_checks c v) (Ok (command_at c v))
 -- the command whose numbers start at a place of a list, and the place after them
 unfoldable pub read_from : ℕ → List Float → ℕ → Outcome (PathCommand × ℕ)
 read_from code numbers place = mapped (λ (c : PathCommand). (c, place + size_of_code code)) (read_command code (drop place numbers))
-
--- the outcome that a `Read` is: the command, and the place after its numbers
-abbrev pub read_of : Read → Outcome (PathCommand × ℕ)
-read_of (Refused r) = Err r
-read_of (Command c next) = Ok (c, next)

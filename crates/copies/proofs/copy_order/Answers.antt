@@ -19,10 +19,10 @@ pub write_order-requires : goal.write_order-requires
 write_order-requires c = search (rules, calls)
 
 pub returns-in-Refused : goal.returns-in-Refused
-returns-in-Refused c = search (rules, calls)
+returns-in-Err c = search (rules, calls)
 
 pub shape_of-order : goal.shape_of-order
 shape_of-order c = search (rules, calls)
 
-pub returns-in-Passed : goal.returns-in-Passed
-returns-in-Passed c = search (rules, calls)
+pub returns-in-Ok tt : goal.returns-in-Ok tt
+returns-in-Ok tt c = search (rules, calls)

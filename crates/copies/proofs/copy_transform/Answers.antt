@@ -16,10 +16,10 @@ pub write_sound-requires : goal.write_sound-requires
 write_sound-requires c = search (rules, calls)
 
 pub returns-in-Refused : goal.returns-in-Refused
-returns-in-Refused c = search (rules, calls)
+returns-in-Err c = search (rules, calls)
 
 pub shape_of-matrix : goal.shape_of-matrix
 shape_of-matrix c = search (rules, calls)
 
-pub returns-in-Passed : goal.returns-in-Passed
-returns-in-Passed c = search (rules, calls)
+pub returns-in-Ok tt : goal.returns-in-Ok tt
+returns-in-Ok tt c = search (rules, calls)

@@ -18,7 +18,7 @@ pub draw_shape-requires : goal.draw_shape-requires
 draw_shape-requires c = search (rules, drawings)
 
 pub returns-in-Fault : goal.returns-in-Fault
-returns-in-Fault c = search (rules, drawings)
+returns-in-Err c = search (rules, drawings)
 
 pub returns-in-Sound : goal.returns-in-Sound
 returns-in-Sound c = search (rules, drawings)

@@ -7,7 +7,7 @@ pub item_row-requires : goal.item_row-requires
 item_row-requires c = search (rules, item_drawings)
 
 pub returns-in-Refused : goal.returns-in-Refused
-returns-in-Refused c = search (rules, item_drawings)
+returns-in-Err c = search (rules, item_drawings)
 
-pub returns-in-Passed : goal.returns-in-Passed
-returns-in-Passed c = search (rules, item_drawings)
+pub returns-in-Ok tt : goal.returns-in-Ok tt
+returns-in-Ok tt c = search (rules, item_drawings)

@@ -7,7 +7,7 @@ pub draw_shape-requires : goal.draw_shape-requires
 draw_shape-requires c = search (rules, path_drawings)
 
 pub returns-in-Refused : goal.returns-in-Refused
-returns-in-Refused c = search (rules, path_drawings)
+returns-in-Err c = search (rules, path_drawings)
 
-pub returns-in-Passed : goal.returns-in-Passed
-returns-in-Passed c = search (rules, path_drawings)
+pub returns-in-Ok tt : goal.returns-in-Ok tt
+returns-in-Ok tt c = search (rules, path_drawings)

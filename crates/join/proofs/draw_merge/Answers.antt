@@ -16,7 +16,7 @@ pub join_rows-requires : goal.join_rows-requires
 join_rows-requires c = search (rules, merges)
 
 pub returns-in-Refused : goal.returns-in-Refused
-returns-in-Refused c = search (rules, merges)
+returns-in-Err c = search (rules, merges)
 
 pub shape_of-codes : goal.shape_of-codes
 shape_of-codes c = search (rules, merges)

@@ -22,7 +22,7 @@ pub write_rows-requires : goal.write_rows-requires
 write_rows-requires c = record { m_in_bounds = search rules; value = search (rules, joins); in_bounds = search (rules, joins); in_bounds_2 = search (rules, joins) }
 
 pub returns-in-Refused : goal.returns-in-Refused
-returns-in-Refused c = search (rules, joins)
+returns-in-Err c = search (rules, joins)
 
 pub shape_of-codes : goal.shape_of-codes
 shape_of-codes c = search (rules, joins)

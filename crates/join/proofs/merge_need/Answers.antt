@@ -7,7 +7,7 @@ pub rows_need-requires : goal.rows_need-requires
 rows_need-requires c = search (rules, merge_needs)
 
 pub returns-in-Refused : goal.returns-in-Refused
-returns-in-Refused c = search (rules, merge_needs)
+returns-in-Err c = search (rules, merge_needs)
 
 pub returns-in-Joined : goal.returns-in-Joined
 returns-in-Joined c = search (rules, merge_needs)

@@ -16,7 +16,7 @@ pub enum_known-refusal : goal.enum_known-refusal
 enum_known-refusal c = search (rules, rows_needs)
 
 pub returns-in-Refused : goal.returns-in-Refused
-returns-in-Refused c = search (rules, rows_needs)
+returns-in-Err c = search (rules, rows_needs)
 
 pub enum_known-more_codes : goal.enum_known-more_codes
 enum_known-more_codes c = search (rules, rows_needs)

@@ -23,7 +23,7 @@ pub write_at-requires : goal.write_at-requires
 write_at-requires c = record { fit = search (rules, row_writes); list_in_bounds = search (rules, row_writes); list_in_bounds_2 = search (rules, row_writes) }
 
 pub returns-in-Fault : goal.returns-in-Fault
-returns-in-Fault c =
+returns-in-Err c =
     row_not_refused c.args.row c.args.items.now _ c.is_source.ensures (search rules) (search rules) _
     c.in-Fault.ensures.0 _ refl
 

@@ -19,7 +19,7 @@ pub need_of-need-requires : goal.need_of-need-requires
 need_of-need-requires c = search (rules, checked_needs)
 
 pub returns-in-Fault : goal.returns-in-Fault
-returns-in-Fault c = search (rules, checked_needs)
+returns-in-Err c = search (rules, checked_needs)
 
 pub returns-in-Sound : goal.returns-in-Sound
 returns-in-Sound c = search (rules, checked_needs)

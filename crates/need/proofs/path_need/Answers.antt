@@ -7,7 +7,7 @@ pub need_of_path-need-requires : goal.need_of_path-need-requires
 need_of_path-need-requires c = search (rules, path_needs)
 
 pub returns-in-Refused : goal.returns-in-Refused
-returns-in-Refused c = search (rules, path_needs)
+returns-in-Err c = search (rules, path_needs)
 
-pub returns-in-Passed : goal.returns-in-Passed
-returns-in-Passed c = search (rules, path_needs)
+pub returns-in-Ok tt : goal.returns-in-Ok tt
+returns-in-Ok tt c = search (rules, path_needs)
