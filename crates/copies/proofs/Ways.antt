@@ -28,7 +28,7 @@ use Rattle.count.specs.Count.{count_up, count_limit}
 use Rattle.command.specs.declared.Refusal.{Refusal}
 use Rattle.command.specs.declared.Refusal.TheVariants.{TooMany, OutOfRange, NoSuchCopy, NotFinite, BufferTooSmall}
 use Rattle.command.specs.Refusals.{refusal_number}
-use Rattle.command.specs.Outcomes.{Outcome, ◌gives◌, checked, AllPass}
+use Rattle.command.specs.Outcomes.{Outcome, ◌gives◌, checked, AllPass, number_of, value_or}
 use Rattle.command.specs.Buffers.{fitted, in_buffer, Filled}
 use Rattle.command.proofs.Buffers.{sets_append, fitted_accepted, fitted_refused, unfilled, filled}
 use Rattle.matrix.specs.declared.Matrix.{Matrix}

@@ -1,5 +1,6 @@
 -- What each way out of a function of this crate owes, as the code meets it: a premise for each test and for each call's result.
 -- Assumes nothing.
+use Rattle.command.specs.declared.Size.{Size}
 use Rattle.std.specs.Prelude.{Ok, Err}
 use mathlib.Core.Path.{◌≡◌, refl, sym, ap, ◌∙◌}
 use mathlib.Core.Bool.{Bool, true, false, cond}
@@ -18,8 +19,8 @@ use Rattle.command.specs.declared.Refusal.{Refusal}
 use Rattle.command.specs.declared.Refusal.TheVariants.{BufferTooSmall}
 use Rattle.command.specs.Commands.{codes_of, numbers_of}
 use Rattle.command.specs.Refusals.{refusal_number}
-use Rattle.command.specs.Outcomes.{Outcome, list_of}
-use Rattle.command.specs.Buffers.{in_buffers, fitted, FilledBoth, size_of, need_of}
+use Rattle.command.specs.Outcomes.{Outcome, list_of, number_of}
+use Rattle.command.specs.Buffers.{in_buffers, fitted, FilledBoth, size_of, need_of, codes_told, numbers_told}
 use Rattle.command.proofs.Outcomes.{refused_accepted}
 use Rattle.command.proofs.Lists.{codes_length, codes_append, numbers_append}
 use Rattle.command.proofs.Buffers.{sets_append, fitted_accepted, fitted_refused, filled, both_unfilled}

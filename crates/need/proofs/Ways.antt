@@ -8,7 +8,7 @@ use lib.Ieee.{Float}
 use lib.ListN.{length, take, drop}
 use Rattle.command.specs.declared.Refusal.{Refusal}
 use Rattle.command.specs.declared.Size.{Size}
-use Rattle.command.specs.Outcomes.{checked}
+use Rattle.command.specs.Outcomes.{checked, Outcome}
 use Rattle.command.specs.Buffers.{size_of, need_of, pair_of}
 use Rattle.command.proofs.Verdicts.{behind_refused, behind_passed}
 use Rattle.path.specs.Path.{path_commands}

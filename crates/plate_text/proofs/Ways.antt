@@ -1,5 +1,6 @@
 -- What each way out of a function of this crate owes, as the code meets it: a premise for each test and for each call's result.
 -- Assumes nothing.
+use Rattle.command.specs.declared.Size.{Size}
 use Rattle.std.specs.Prelude.{Ok, Err}
 use mathlib.Core.Path.{◌≡◌, refl, sym, ap, ap₂, ◌∙◌, subst}
 use mathlib.Core.Bool.{true}
@@ -16,7 +17,7 @@ use Rattle.command.specs.declared.Refusal.{Refusal}
 use Rattle.command.specs.Commands.{codes_of, numbers_of, command_limit}
 use Rattle.command.specs.Refusals.{refusal_number}
 use Rattle.command.specs.Outcomes.{Outcome, number_of, mapped, list_of}
-use Rattle.command.specs.Buffers.{onto, in_buffers, fitted, Filled, FilledBoth}
+use Rattle.command.specs.Buffers.{onto, in_buffers, fitted, Filled, FilledBoth, codes_told, numbers_told}
 use Rattle.command.proofs.Outcomes.{refused_accepted, number_some, answered}
 use Rattle.command.proofs.Lists.{codes_length}
 use Rattle.path.specs.Path.{path_commands}
