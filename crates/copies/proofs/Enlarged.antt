@@ -77,7 +77,7 @@ module _ {k : ℕ} (K : k ≤ 6) where
     numbers_moved = λ i. a_same i ∷ b_same i ∷ c_same i ∷ d_same i ∷ M.e_twin.is i ∷ M.f_twin.is i ∷ O i ∷ []
 
     finite_moved : all_finite (copy_numbers m' o') ≡ all_finite (copy_numbers m o)
-    unfolding copy_numbers all_finite
+    unfolding copy_numbers
     finite_moved =
         λ i. finite (a_same i) && (finite (b_same i) && (finite (c_same i) && (finite (d_same i)
         && (finite_same M.e_twin i && (finite_same M.f_twin i && (finite (O i) && true))))))

@@ -1,5 +1,6 @@
 -- What the two calls of a repeater answer, whatever they are given. Definitions only.
-use Rattle.std.specs.Prelude.{ℕ, Bool, true, not, ◌&&◌, ◌||◌, List, [], ◌∷◌, ltb, Float, get_or, Ok}
+use Rattle.std.specs.Prelude.{ℕ, Bool, not, ◌||◌, List, [], ◌∷◌, ltb, Float, get_or, Ok}
+use Rattle.std.specs.List.{list_all}
 use Rattle.std.specs.Float.{nan}
 use Rattle.std.specs.Float.Ieee.{lt}
 use Rattle.std.specs.Float.Ieee.Scale.{finite}
@@ -53,9 +54,8 @@ order_answer r = checked (repeater_checks r) (Ok (copy_order r))
 unfoldable pub copy_numbers : Matrix → Float → List Float
 copy_numbers m opacity = m.a ∷ m.b ∷ m.c ∷ m.d ∷ m.e ∷ m.f ∷ opacity ∷ []
 
-unfoldable pub all_finite : List Float → Bool
-all_finite [] = true
-all_finite (x ∷ xs) = finite x && all_finite xs
+abbrev pub all_finite : List Float → Bool
+all_finite xs = list_all finite xs
 
 -- a copy index that is not below the copy count is 9, and numbers of which one is not finite are 10
 unfoldable pub copy_answer : RepeaterStyle → ℕ → Outcome (List Float)

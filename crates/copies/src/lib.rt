@@ -1,13 +1,13 @@
 // A repeater answered: the order of its copies, and the numbers of one of them.
 #![tactic(auto)]
 
-ghost use Rattle.std.specs.Prelude.{◌≡◌, not, [], ◌∷◌, ◌≤◌, length};
+ghost use Rattle.std.specs.Prelude.{◌≡◌, not, [], ◌∷◌, ◌≤◌, ◌<◌, Ok, length, get_or};
 ghost use Rattle.std.proofs.lemmas.List.Edits.{sets};
 ghost use Rattle.ieee.specs.Limit.{all_within};
 ghost use Rattle.command.specs.declared.Refusal.TheVariants.{NotFinite};
 ghost use Rattle.command.specs.Outcomes.{number_of, value_or, ◌gives◌, checked, AllPass};
 ghost use Rattle.command.specs.Buffers.{fitted, in_buffer, Filled};
-ghost use Rattle.copies.specs.Order.{rising, falling, order_of};
+ghost use Rattle.copies.specs.Order.{order_of};
 ghost use Rattle.copies.specs.Calls as spec;
 
 use command::{Outcome, Refusal};
@@ -42,6 +42,7 @@ pub fn repeater_of(numbers: &[f32], mode: u8) -> RepeaterStyle
     }
 }
 
+#[tactic(auto, unfolding(crate::specs::Calls::has_too_many))]
 fn has_too_many(repeater: RepeaterStyle) -> bool
     ensures { result ≡ spec.has_too_many repeater }
 {
@@ -68,48 +69,38 @@ fn is_within(repeater: RepeaterStyle) -> bool
     float::all_within(&numbers, 1048576.0)
 }
 
+#[tactic(auto, unfolding(crate::specs::Calls::repeater_checks))]
 pub fn check_repeater(repeater: RepeaterStyle) -> Outcome<()>
     ensures { result ≡ checked (spec.repeater_checks repeater) (Ok tt) }
 {
     if has_too_many(repeater) {
         return Err(Refusal::TooMany);
     }
-    if is_within(repeater) {
-        Ok(())
-    } else {
-        Err(Refusal::OutOfRange)
+    if !is_within(repeater) {
+        return Err(Refusal::OutOfRange);
     }
+    Ok(())
 }
 
-// The numbers 0, 1, .. below n.
-fn put_rising(n: usize, order: &mut [u32])
-    requires { (n ≤ length order.old) × (n ≤ 4096) }
-    ensures { order.new ≡ sets order.old 0 (rising 0 n) }
+// The copy at a place of the order of n copies: that of the place's number in mode 1, else counted from the last.
+// Any other number is a mode too, which draws from the last on, so a mode is no enum.
+#[tactic(auto, using(crate::proofs::Ways::places))]
+fn copy_at(mode: u8, n: usize, place: usize) -> u32
+    requires { (place < n) × (n ≤ 4096) }
+    ensures { result ≡ get_or (order_of mode n) place 0 }
 {
-    for i in 0..n {
-        order[i] = i as u32;
-    }
-}
-
-// The same, from the last on.
-fn put_falling(n: usize, order: &mut [u32])
-    requires { (n ≤ length order.old) × (n ≤ 4096) }
-    ensures { order.new ≡ sets order.old 0 (falling n) }
-{
-    for i in 0..n {
-        order[i] = (n - 1 - i) as u32;
-    }
+    let copy = if mode == 1 { place } else { n - 1 - place };
+    copy as u32
 }
 
 // The order of n copies from the start of a list.
+#[tactic(auto, using(crate::proofs::Ways::puttings))]
 fn put_order(mode: u8, n: usize, order: &mut [u32])
     requires { (n ≤ length order.old) × (n ≤ 4096) }
     ensures { order.new ≡ sets order.old 0 (order_of mode n) }
 {
-    if mode == 1 {
-        put_rising(n, order);
-    } else {
-        put_falling(n, order);
+    for place in 0..n {
+        order[place] = copy_at(mode, n, place);
     }
 }
 
@@ -129,6 +120,7 @@ fn write_order(mode: u8, n: usize, order: &mut [u32]) -> Outcome<usize>
 }
 
 // The order of a repeater's copies.
+#[tactic(auto, using(crate::proofs::Ways::calls))]
 pub fn copy_order(repeater: RepeaterStyle, order: &mut [u32]) -> Outcome<usize>
     ensures { Filled
         (fitted (in_buffer (length order.old)) (spec.order_answer repeater))
@@ -146,40 +138,25 @@ fn are_finite(numbers: &[f32]) -> bool
     numbers.iter().all(|x| float::is_finite(*x))
 }
 
-// Puts seven numbers down.
-fn put_copy(m: Matrix, opacity: f32, matrix: &mut [f32])
-    requires { 7 ≤ length matrix.old }
-    ensures { matrix.new ≡ sets matrix.old 0 (spec.copy_numbers m opacity) }
-{
-    let last = command::put_six(matrix, 0, m.a, m.b, m.c, m.d, m.e, m.f);
-    matrix[last] = opacity;
-}
-
-fn is_finite_copy(m: Matrix, opacity: f32) -> bool
-    ensures { result ≡ spec.all_finite (spec.copy_numbers m opacity) }
-{
-    let numbers = [m.a, m.b, m.c, m.d, m.e, m.f, opacity];
-    are_finite(&numbers)
-}
-
 // The numbers of a copy, if they are finite and fit.
-fn write_copy(m: Matrix, opacity: f32, matrix: &mut [f32]) -> Outcome<usize>
+fn write_copy(numbers: &[f32; 7], matrix: &mut [f32]) -> Outcome<usize>
     ensures { Filled
         (fitted (in_buffer (length matrix.old))
-        (checked ((not (spec.all_finite (spec.copy_numbers m opacity)) gives NotFinite) ∷ []) (Ok (spec.copy_numbers m opacity))))
+        (checked ((not (spec.all_finite numbers.now) gives NotFinite) ∷ []) (Ok numbers.now)))
         (number_of result) (value_or 0 result) matrix.old matrix.new }
 {
-    if !is_finite_copy(m, opacity) {
+    if !are_finite(numbers) {
         return Err(Refusal::NotFinite);
     }
     if matrix.len() < 7 {
         return Err(Refusal::BufferTooSmall);
     }
-    put_copy(m, opacity, matrix);
+    matrix[..7].copy_from_slice(numbers);
     Ok(7)
 }
 
 // The numbers of one copy of a sound repeater.
+#[tactic(auto, using(crate::proofs::Ways::sounds))]
 fn write_sound(repeater: RepeaterStyle, copy: usize, matrix: &mut [f32]) -> Outcome<usize>
     requires { AllPass (spec.repeater_checks repeater) }
     ensures { Filled
@@ -190,14 +167,13 @@ fn write_sound(repeater: RepeaterStyle, copy: usize, matrix: &mut [f32]) -> Outc
     if k >= repeater::copy_count(repeater) {
         return Err(Refusal::NoSuchCopy);
     }
-    write_copy(
-        repeater::copy_transform(repeater, k),
-        repeater::copy_opacity(repeater, k),
-        matrix,
-    )
+    let m = repeater::copy_transform(repeater, k);
+    let opacity = repeater::copy_opacity(repeater, k);
+    write_copy(&[m.a, m.b, m.c, m.d, m.e, m.f, opacity], matrix)
 }
 
 // The numbers of one copy.
+#[tactic(auto, using(crate::proofs::Ways::calls))]
 pub fn copy_transform(repeater: RepeaterStyle, copy: usize, matrix: &mut [f32]) -> Outcome<usize>
     ensures { Filled
         (fitted (in_buffer (length matrix.old)) (spec.transform_answer repeater copy))
