@@ -1,2 +1,0 @@
--- What the proofs of `matrix` cite.
-pub mod Ways
