@@ -1,7 +1,7 @@
 -- What each way out of a function of this crate owes, as the code meets it: a premise for each test and for each call's result.
 -- Assumes nothing.
 use Rattle.command.specs.declared.Size.{Size}
-use Rattle.std.specs.Prelude.{Ok, Err}
+use Rattle.std.specs.Prelude.{Result, Ok, Err}
 use mathlib.Core.Path.{◌≡◌, refl, sym, ap, ap₂, ◌∙◌, subst}
 use mathlib.Core.Bool.{true}
 use mathlib.Core.List.{List, [], ◌∷◌, map}
@@ -30,7 +30,6 @@ use Rattle.judge.proofs.Ways.{judged_read}
 use Rattle.judge.proofs.Lists.{list_judged, read_written}
 use Rattle.measure.specs.Length.{path_length}
 use Rattle.length.specs.Lists.{measure_list}
-use Rattle.std.specs.Prelude.{Result, Ok, Err}
 use Rattle.plate_read.specs.declared.Reading.{Reading}
 use Rattle.plate_read.specs.Text.{Content, faulty, given, read_text, reading_of, numbers_given}
 use Rattle.plate_read.proofs.Texts.{reading_counts}
