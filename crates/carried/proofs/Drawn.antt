@@ -1,5 +1,6 @@
 -- The path of a list is a part of what each call draws: of its own drawing, of that of a row, and of that of a merge, after the rows before it.
 -- Assumes nothing.
+use Rattle.std.specs.Prelude.{Ok, Err}
 use mathlib.Core.Path.{◌≡◌, refl, sym, ap, ap₂, ◌∙◌}
 use mathlib.Core.Bool.{true}
 use mathlib.Core.List.{List, [], ◌∷◌, ◌++◌, map, append-nil, append_assoc}
@@ -8,7 +9,7 @@ use native.Mathlib.Omega.{arith}
 use lib.Ieee.{Float}
 use lib.ListN.{length, get_or, take, drop}
 use Rattle.command.specs.declared.PathCommand.{PathCommand}
-use Rattle.command.specs.Outcomes.{Outcome, refused, accepted, and_then, list_of}
+use Rattle.command.specs.Outcomes.{Outcome, and_then, list_of}
 use Rattle.command.proofs.Outcomes.{refused_accepted, checks_passed}
 use Rattle.path.specs.Path.{path_commands}
 use Rattle.shape.specs.Shape.{shape_commands}
@@ -23,31 +24,31 @@ use Rattle.carried.proofs.Written.{wrote_commands}
 use Rattle.carried.specs.Law.{PathDrawn, RowDrawn, SourceDrawn}
 
 -- a drawing that is the path and nothing else
-alone : (o : Outcome (List PathCommand)) (closed : ℕ) (v : List Float) (count : ℕ) → o ≡ accepted (path_commands closed v count) → DrawnIn o 0 closed v count
-alone o closed v count e = record { before = []; after = []; place = refl; drawn = e ∙ ap accepted (sym (append-nil (path_commands closed v count))) }
+alone : (o : Outcome (List PathCommand)) (closed : ℕ) (v : List Float) (count : ℕ) → o ≡ Ok (path_commands closed v count) → DrawnIn o 0 closed v count
+alone o closed v count e = record { before = []; after = []; place = refl; drawn = e ∙ ap Ok (sym (append-nil (path_commands closed v count))) }
 
 pub path_drawn : PathDrawn
 path_drawn closed v count codes numbers w =
     let (cs, e) = wrote_commands (draw_path closed v count) codes numbers w in
-    alone _ closed v count (e ∙ ap accepted (drawn_path closed v count cs e).2)
+    alone _ closed v count (e ∙ ap Ok (drawn_path closed v count cs e).2)
 
 -- ---- a row
 
 -- the commands of a path row that is drawn
-source_path : (row : ItemRow) (items : List Float) (cs : List PathCommand) → is_path row ≡ true → draw_source row items ≡ accepted cs
+source_path : (row : ItemRow) (items : List Float) (cs : List PathCommand) → is_path row ≡ true → draw_source row items ≡ Ok cs
     → cs ≡ path_commands row.mark (drop row.place items) row.count
 unfolding draw_source shape_drawn item_shape shape_commands
 source_path row items cs path e =
     let v : List Float = drop row.place items in
-    let drawn : shape_drawn row v ≡ accepted cs = (checks_passed (source_checks row items) (shape_drawn row v) cs e).1 in
+    let drawn : shape_drawn row v ≡ Ok cs = (checks_passed (source_checks row items) (shape_drawn row v) cs e).1 in
     sym (ap list_of (rw path at drawn))
 
 pub row_drawn : RowDrawn
 unfolding draw_item
 row_drawn row items codes numbers w path =
     let (cs, e) = wrote_commands (draw_item row items) codes numbers w in
-    let s : draw_source (item_row row 0) items ≡ accepted cs = (checks_passed (item_checks row) (draw_source (item_row row 0) items) cs e).1 in
-    alone _ _ _ _ (e ∙ ap accepted (source_path (item_row row 0) items cs path s))
+    let s : draw_source (item_row row 0) items ≡ Ok cs = (checks_passed (item_checks row) (draw_source (item_row row 0) items) cs e).1 in
+    alone _ _ _ _ (e ∙ ap Ok (source_path (item_row row 0) items cs path s))
 
 -- ---- the rows of a merge
 
@@ -55,21 +56,21 @@ row_drawn row items codes numbers w path =
 record Followed (o p : Outcome (List PathCommand)) : Type 0 where
   first : List PathCommand
   second : List PathCommand
-  first_is : o ≡ accepted first
-  second_is : p ≡ accepted second
+  first_is : o ≡ Ok first
+  second_is : p ≡ Ok second
 
-followed : (o p : Outcome (List PathCommand)) (cs : List PathCommand) → followed_by o p ≡ accepted cs → Followed o p
+followed : (o p : Outcome (List PathCommand)) (cs : List PathCommand) → followed_by o p ≡ Ok cs → Followed o p
 unfolding followed_by
-followed (refused r) p cs e = refused_accepted r cs e
-followed (accepted bs) (refused r) cs e = refused_accepted r cs e
-followed (accepted bs) (accepted ds) cs e = record { first = bs; second = ds; first_is = refl; second_is = refl }
+followed (Err r) p cs e = refused_accepted r cs e
+followed (Ok bs) (Err r) cs e = refused_accepted r cs e
+followed (Ok bs) (Ok ds) cs e = record { first = bs; second = ds; first_is = refl; second_is = refl }
 
 -- one row's path among those of others: what is drawn before it is the drawing of the rows before it
 record PartDrawn (front o : Outcome (List PathCommand)) (closed : ℕ) (v : List Float) (count : ℕ) : Type 0 where
   before : List PathCommand
   after : List PathCommand
-  before_is : front ≡ accepted before
-  drawn : o ≡ accepted (before ++ path_commands closed v count ++ after)
+  before_is : front ≡ Ok before
+  drawn : o ≡ Ok (before ++ path_commands closed v count ++ after)
 
 module _ (rows : List ℕ) (items : List Float) where
   -- the drawing of the rows of these numbers
@@ -78,7 +79,7 @@ module _ (rows : List ℕ) (items : List Float) where
 
   -- a path row is drawn after the rows before it
   rows_part : (numbers : List ℕ) (index : ℕ) (row : ItemRow) (cs : List PathCommand) → index < length numbers → row ≡ item_row rows (get_or numbers index 0)
-      → is_path row ≡ true → rows_drawn numbers ≡ accepted cs
+      → is_path row ≡ true → rows_drawn numbers ≡ Ok cs
       → PartDrawn (rows_drawn (take index numbers)) (rows_drawn numbers) row.mark (drop row.place items) row.count
   unfolding draw_sources followed_by
   rows_part [] index row cs h is path e = absurd (omega arith)
@@ -89,7 +90,7 @@ module _ (rows : List ℕ) (items : List Float) where
         before = [];
         after = f.second;
         before_is = refl;
-        drawn = ap₂ followed_by (f.first_is ∙ ap accepted own) f.second_is;
+        drawn = ap₂ followed_by (f.first_is ∙ ap Ok own) f.second_is;
       }
   rows_part (m ∷ ms) (suc index) row cs h is path e =
       let f = followed (draw_source (item_row rows m) items) (rows_drawn ms) cs e in

@@ -1,8 +1,8 @@
 -- Document 02, U6: 'What a segment writes is proved to hang on the vertex carried over and the six numbers of the next alone'. Definitions only.
-use Rattle.std.specs.Prelude.{ℕ, ◌+◌, ◌<◌, ◌≡◌, true, List, Float, length, get_or, take, drop}
+use Rattle.std.specs.Prelude.{ℕ, ◌+◌, ◌<◌, ◌≡◌, true, List, Float, length, get_or, take, drop, Ok}
 use Rattle.command.specs.declared.PathCommand.{PathCommand}
 use Rattle.command.specs.Commands.{code_of, coordinates_of}
-use Rattle.command.specs.Outcomes.{Outcome, accepted, list_of}
+use Rattle.command.specs.Outcomes.{Outcome, list_of}
 use Rattle.path.specs.Path.{bezier_segment}
 use Rattle.item.specs.declared.ItemRow.{ItemRow}
 use Rattle.item.specs.Rows.{item_row, is_path}
@@ -49,5 +49,5 @@ abbrev pub SourceDrawn : Type 0
 SourceDrawn =
     (rows : List ℕ) (n : ℕ) (items : List Float) (joined : List ℕ) (index : ℕ) (row : ItemRow) (codes : List ℕ) (numbers : List Float)
     → Wrote (draw_merge rows n items) codes numbers
-    → decision rows n ≡ accepted joined → index < length joined → row ≡ item_row rows (get_or joined index 0) → is_path row ≡ true
+    → decision rows n ≡ Ok joined → index < length joined → row ≡ item_row rows (get_or joined index 0) → is_path row ≡ true
     → DrawnIn (draw_merge rows n items) (length (list_of (draw_joined rows items (take index joined)))) row.mark (drop row.place items) row.count

@@ -1,7 +1,7 @@
 -- The segments of a vertex list that is drawn, and where their commands stand in the buffers of a call. Definitions only.
-use Rattle.std.specs.Prelude.{ℕ, ◌-◌, ◌≡◌, Bool, cond, ◌&&◌, ◌||◌, List, ◌++◌, eqb, ltb, Float, length, get_or, take, drop}
+use Rattle.std.specs.Prelude.{ℕ, ◌-◌, ◌≡◌, Bool, cond, ◌&&◌, ◌||◌, List, ◌++◌, eqb, ltb, Float, length, get_or, take, drop, Ok}
 use Rattle.command.specs.declared.PathCommand.{PathCommand}
-use Rattle.command.specs.Outcomes.{Outcome, accepted}
+use Rattle.command.specs.Outcomes.{Outcome}
 use Rattle.command.specs.Buffers.{in_buffers, fitted, FilledBoth}
 use Rattle.path.specs.declared.BezierVertex.{BezierVertex}
 use Rattle.path.specs.Path.{vertex_at, path_commands}
@@ -28,7 +28,7 @@ pub record DrawnIn (o : Outcome (List PathCommand)) (p closed : ℕ) (v : List F
   pub before : List PathCommand
   pub after : List PathCommand
   pub place : length before ≡ p
-  pub drawn : o ≡ accepted (before ++ path_commands closed v count ++ after)
+  pub drawn : o ≡ Ok (before ++ path_commands closed v count ++ after)
 
 -- a call that draws has answered and left these buffers, whatever they held before: its promise, with the number 0
 pub record Wrote (o : Outcome (List PathCommand)) (codes : List ℕ) (numbers : List Float) : Type 0 where

@@ -1,5 +1,6 @@
 -- Laws of enlarged command lists: the codes stay, the numbers are multiplied, and all are within the limit; and how such lists are built, and outcomes
 -- that have them. Assumes nothing.
+use Rattle.std.specs.Prelude.{Ok, Err}
 use mathlib.Core.Path.{◌≡◌, refl, sym, ap, ap₂, ◌∙◌, subst}
 use mathlib.Core.Bool.{Bool, true, false, cond}
 use mathlib.Core.List.{List, [], ◌∷◌, ◌++◌, map, map-append}
@@ -19,7 +20,7 @@ use Rattle.command.specs.declared.PathCommand.{PathCommand}
 use Rattle.command.specs.declared.PathCommand.TheVariants.{Move, Line, Cubic, Close, Quad}
 use Rattle.command.specs.declared.Refusal.{Refusal}
 use Rattle.command.specs.Commands.{code_of, coordinates_of, codes_of, numbers_of, command_limit}
-use Rattle.command.specs.Outcomes.{Outcome, refused, accepted, Check, checked, AllPass}
+use Rattle.command.specs.Outcomes.{Outcome, Check, checked, AllPass}
 use Rattle.command.specs.Buffers.{size_of, need_of}
 use Rattle.command.specs.Enlarged.{enlarged, AllOn, CommandTwin, Twins, enlarged_drawing, DrawingTwin}
 use Rattle.command.proofs.Outcomes.{checks_relate}
@@ -66,8 +67,8 @@ pub enlarged_need : (k : ℕ) (o o' : Outcome (List PathCommand)) → o' ≡ enl
 enlarged_need k o o' e = ap need_of e ∙ go o
   where
     go : (p : Outcome (List PathCommand)) → need_of (enlarged_drawing k p) ≡ need_of p
-    go (refused r) = refl
-    go (accepted cs) = ap accepted (enlarged_size k cs)
+    go (Err r) = refl
+    go (Ok cs) = ap Ok (enlarged_size k cs)
 
 -- ---- the limit, which no number of a grid up to 2 ^ 22 passes
 pub limit_value : HasValue command_limit false 4194304 1
@@ -157,11 +158,11 @@ twins_take {k} {q} {b} {cs} {cs'} n t = subst (λ (ds : List PathCommand). Twins
 
 -- ---- what is drawn
 module _ {k q b : ℕ} where
-  pub drawing_refused : (r : Refusal) → DrawingTwin k q b (refused r) (refused r)
+  pub drawing_refused : (r : Refusal) → DrawingTwin k q b (Err r) (Err r)
   drawing_refused r = record { outcome = refl; grid = tt }
 
-  pub drawing_accepted : {cs cs' : List PathCommand} → Twins k q b cs cs' → DrawingTwin k q b (accepted cs) (accepted cs')
-  drawing_accepted t = record { outcome = ap accepted t.commands; grid = t.grid }
+  pub drawing_accepted : {cs cs' : List PathCommand} → Twins k q b cs cs' → DrawingTwin k q b (Ok cs) (Ok cs')
+  drawing_accepted t = record { outcome = ap Ok t.commands; grid = t.grid }
 
   -- behind the same checks
   pub drawing_checked : (cs : List Check) {o o' : Outcome (List PathCommand)} → (AllPass cs → DrawingTwin k q b o o') → DrawingTwin k q b (checked cs o) (checked cs o')

@@ -1,10 +1,10 @@
 -- What a call that fills buffers promises of its result and of each buffer, the last check before it does, and what a drawing needs. Definitions only.
-use Rattle.std.specs.Prelude.{ℕ, ◌≤◌, ◌≡◌, Bool, cond, ◌&&◌, List, ◌++◌, leb, Float, length, drop}
+use Rattle.std.specs.Prelude.{ℕ, ◌≤◌, ◌≡◌, Bool, cond, ◌&&◌, List, ◌++◌, leb, Float, length, drop, Ok, Err}
 use Rattle.command.specs.declared.PathCommand.{PathCommand}
 use Rattle.command.specs.declared.Size.{Size}
 use Rattle.command.specs.declared.Refusal.TheVariants.{BufferTooSmall}
 use Rattle.command.specs.Commands.{codes_of, numbers_of}
-use Rattle.command.specs.Outcomes.{Outcome, refused, accepted, number_of, mapped, list_of}
+use Rattle.command.specs.Outcomes.{Outcome, number_of, mapped, value_or, list_of}
 
 -- a buffer with its beginning replaced: places past it keep their content
 abbrev pub onto {ℓ} : {A : Type ℓ} → List A → List A → List A
@@ -12,8 +12,8 @@ onto answer buffer = answer ++ drop (length answer) buffer
 
 -- The last check: an answer that does not fit the buffers is refused.
 unfoldable pub fitted : {A : Type 0} → (A → Bool) → Outcome A → Outcome A
-fitted fits (refused r) = refused r
-fitted fits (accepted a) = cond (fits a) (accepted a) (refused BufferTooSmall)
+fitted fits (Err r) = Err r
+fitted fits (Ok a) = cond (fits a) (Ok a) (Err BufferTooSmall)
 
 -- a list fits a buffer of this length
 abbrev pub in_buffer : {A : Type 0} → ℕ → List A → Bool
@@ -26,6 +26,13 @@ size_of cs = (length (codes_of cs), length (numbers_of cs))
 -- the codes and numbers that a `Size` is
 abbrev pub pair_of : Size → ℕ × ℕ
 pair_of size = (size.codes, size.numbers)
+
+-- how many codes and how many numbers are told: none for a refusal
+abbrev pub codes_told : Outcome Size → ℕ
+codes_told o = value_or 0 (mapped (λ (size : Size). size.codes) o)
+
+abbrev pub numbers_told : Outcome Size → ℕ
+numbers_told o = value_or 0 (mapped (λ (size : Size). size.numbers) o)
 
 -- a need is within a room: no more codes, and no more numbers
 abbrev pub Within : ℕ × ℕ → ℕ × ℕ → Type 0

@@ -2,6 +2,5 @@
 pub mod Commands
 pub mod Refusals
 pub mod Outcomes
-pub mod Verdicts
 pub mod Buffers
 pub mod Enlarged

@@ -1,34 +1,31 @@
 -- Refused, or an answer: the one word for what a call comes to, the checks that come before an answer, and what a call tells of it. Definitions only.
-use Rattle.std.specs.Prelude.{ℕ, ◌≡◌, Bool, false, cond, List, [], ◌∷◌}
+use Rattle.std.specs.Prelude.{ℕ, ◌≡◌, Bool, false, cond, List, [], ◌∷◌, Result, Ok, Err}
 use Rattle.command.specs.declared.Refusal.{Refusal}
-use Rattle.command.specs.declared.Counts.{Counts}
-use Rattle.command.specs.declared.Counts.TheVariants.{Refused, Of}
 use Rattle.command.specs.Refusals.{refusal_number}
 
--- the first refusal that is to be given, or the answer
-pub data Outcome (A : Type 0) : Type 0 where
-  refused : Refusal → Outcome A
-  accepted : A → Outcome A
+-- the answer, or the first refusal that is to be given
+abbrev pub Outcome : Type 0 → Type 0
+Outcome A = Result A Refusal
 
 -- the number that a call hands back: 0 for an answer
 abbrev pub number_of : {A : Type 0} → Outcome A → ℕ
-number_of (refused r) = refusal_number r
-number_of (accepted a) = 0
+number_of (Err r) = refusal_number r
+number_of (Ok a) = 0
 
 -- something else made of the answer
 abbrev pub mapped : {A B : Type 0} → (A → B) → Outcome A → Outcome B
-mapped f (refused r) = refused r
-mapped f (accepted a) = accepted (f a)
+mapped f (Err r) = Err r
+mapped f (Ok a) = Ok (f a)
 
 -- one thing and then another, which may yet refuse
 abbrev pub and_then : {A B : Type 0} → Outcome A → (A → Outcome B) → Outcome B
-and_then (refused r) next = refused r
-and_then (accepted a) next = next a
+and_then (Err r) next = Err r
+and_then (Ok a) next = next a
 
 -- the answer, or what stands in for it where there is none
 abbrev pub value_or : {A : Type 0} → A → Outcome A → A
-value_or other (refused r) = other
-value_or other (accepted a) = a
+value_or other (Err r) = other
+value_or other (Ok a) = a
 
 -- the answer's list: none for a refusal
 abbrev pub list_of : {A : Type 0} → Outcome (List A) → List A
@@ -48,7 +45,7 @@ test gives r = record { fails = test; refusal = r }
 -- the checks in their order: the first that fails refuses, and where none does the outcome is as it was
 abbrev pub checked : {A : Type 0} → List Check → Outcome A → Outcome A
 checked [] o = o
-checked (c ∷ cs) o = cond c.fails (refused c.refusal) (checked cs o)
+checked (c ∷ cs) o = cond c.fails (Err c.refusal) (checked cs o)
 
 -- each of them finds nothing
 abbrev pub AllPass : List Check → Type 0
@@ -67,17 +64,3 @@ pub record Counted (o : Outcome (ℕ × ℕ)) (number first second : ℕ) : Type
   pub number_is : number ≡ number_of o
   pub first_is : first ≡ value_or 0 (mapped (λ (n : ℕ × ℕ). n.0) o)
   pub second_is : second ≡ value_or 0 (mapped (λ (n : ℕ × ℕ). n.1) o)
-
--- the outcome that a `Counts` is, and what is told of it
-abbrev pub counts_of : Counts → Outcome (ℕ × ℕ)
-counts_of (Refused r) = refused r
-counts_of (Of first second) = accepted (first, second)
-
-abbrev pub counts_number : Counts → ℕ
-counts_number counts = number_of (counts_of counts)
-
-abbrev pub first_count : Counts → ℕ
-first_count counts = value_or 0 (mapped (λ (n : ℕ × ℕ). n.0) (counts_of counts))
-
-abbrev pub second_count : Counts → ℕ
-second_count counts = value_or 0 (mapped (λ (n : ℕ × ℕ). n.1) (counts_of counts))

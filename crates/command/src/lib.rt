@@ -5,7 +5,8 @@ ghost use Rattle.std.specs.Prelude.{◌≡◌, [], ◌∷◌, ◌+◌, ◌≤◌
 ghost use Rattle.std.proofs.lemmas.List.Edits.{sets};
 ghost use Rattle.command.specs.Commands.{code_of, coordinates_of};
 ghost use Rattle.command.specs.Refusals.{refusal_number};
-ghost use Rattle.command.specs.Outcomes.{Counted, counts_of, counts_number};
+ghost use Rattle.command.specs.Outcomes.{mapped, number_of, Counted};
+ghost use Rattle.command.specs.Buffers.{pair_of};
 
 // A path command, with its coordinates.
 #[derive(Clone, Copy)]
@@ -17,30 +18,25 @@ pub enum PathCommand {
     Quad(f32, f32, f32, f32),
 }
 
-// Why a call gives no answer.
-#[derive(Clone, Copy)]
+// Why a call gives no answer, with the number by which C knows it.
+#[derive(Clone, Copy, PartialEq, Eq)]
 pub enum Refusal {
-    Empty,
-    TooMany,
-    OutOfRange,
-    Unlisted,
-    Unsupported,
-    BrokenNesting,
-    NotMergeable,
-    TooShort,
-    NoSuchCopy,
-    NotFinite,
-    BufferTooSmall,
-    OutOfBounds,
+    Empty = 1,
+    TooMany = 2,
+    OutOfRange = 3,
+    Unlisted = 4,
+    Unsupported = 5,
+    BrokenNesting = 6,
+    NotMergeable = 7,
+    TooShort = 8,
+    NoSuchCopy = 9,
+    NotFinite = 10,
+    BufferTooSmall = 11,
+    OutOfBounds = 12,
 }
 
-// Two counts that a call tells, or why it tells none: the codes and numbers that a drawing needs or has
-// written, or where a command's numbers start and how many they are.
-#[derive(Clone, Copy)]
-pub enum Counts {
-    Refused(Refusal),
-    Of(usize, usize),
-}
+// What a call comes to: an answer, or the first refusal.
+pub type Outcome<T> = Result<T, Refusal>;
 
 // So many codes and so many numbers: what a shape needs of two buffers, or how much of both is filled.
 #[derive(Clone, Copy)]
@@ -49,59 +45,37 @@ pub struct Size {
     pub numbers: usize,
 }
 
-// What checks alone come to: the first refusal, or that all of them pass.
-#[derive(Clone, Copy)]
-pub enum Verdict {
-    Refused(Refusal),
-    Passed,
-}
+impl From<Refusal> for u32 {
+    ghost from_gives = { λ refusal number. number ≡ refusal_number refusal };
 
-// The number by which C knows a refusal.
-pub fn refusal_number(refusal: Refusal) -> u32
-    ensures { result ≡ refusal_number refusal }
-{
-    match refusal {
-        Refusal::Empty => 1,
-        Refusal::TooMany => 2,
-        Refusal::OutOfRange => 3,
-        Refusal::Unlisted => 4,
-        Refusal::Unsupported => 5,
-        Refusal::BrokenNesting => 6,
-        Refusal::NotMergeable => 7,
-        Refusal::TooShort => 8,
-        Refusal::NoSuchCopy => 9,
-        Refusal::NotFinite => 10,
-        Refusal::BufferTooSmall => 11,
-        Refusal::OutOfBounds => 12,
+    fn from(refusal: Refusal) -> u32 {
+        refusal as u32
     }
 }
 
 // The number that a call hands back: 0 for an answer.
-pub fn counts_number(counts: Counts) -> u32
-    ensures { result ≡ counts_number counts }
+pub fn number_of<T: Drop>(outcome: Outcome<T>) -> u32
+    ensures { result ≡ number_of outcome }
 {
-    match counts {
-        Counts::Refused(refusal) => refusal_number(refusal),
-        Counts::Of(_, _) => 0,
+    match outcome {
+        Err(refusal) => u32::from(refusal),
+        Ok(_) => 0,
     }
 }
 
-// Tells both counts at places of the caller's, 0 for a refusal, and hands the number back.
-pub fn tell(counts: Counts, first: &mut usize, second: &mut usize) -> u32
-    ensures { Counted (counts_of counts) result first.new second.new }
+// Tells two counts at places of the caller's, both 0 for a refusal, and hands the number back.
+pub fn tell(counts: Outcome<(usize, usize)>, first: &mut usize, second: &mut usize) -> u32
+    ensures { Counted counts result first.new second.new }
 {
-    match counts {
-        Counts::Refused(refusal) => {
-            *first = 0;
-            *second = 0;
-            refusal_number(refusal)
-        }
-        Counts::Of(a, b) => {
-            *first = a;
-            *second = b;
-            0
-        }
-    }
+    (*first, *second) = counts.unwrap_or((0, 0));
+    number_of(counts)
+}
+
+// The same of the codes and numbers that are needed or written.
+pub fn tell_size(size: Outcome<Size>, codes: &mut usize, numbers: &mut usize) -> u32
+    ensures { Counted (mapped pair_of size) result codes.new numbers.new }
+{
+    tell(size.map(|size| (size.codes, size.numbers)), codes, numbers)
 }
 
 // The code of a command.

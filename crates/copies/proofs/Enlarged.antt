@@ -1,5 +1,6 @@
 -- A repeater that scales by 100 per cent, with its position and its anchor on the grid of 1 / 1024, enlarged by a power of two:
 -- every refusal and the order of the copies are the same, and of the seven numbers of a copy e and f are multiplied. Assumes nothing.
+use Rattle.std.specs.Prelude.{Ok}
 use mathlib.Core.Path.{◌≡◌, refl, sym, ap, ◌∙◌}
 use mathlib.Core.Bool.{true, false, not, ◌&&◌, ◌||◌}
 use mathlib.Core.List.{List, [], ◌∷◌}
@@ -19,7 +20,7 @@ use Rattle.ieee.proofs.Bounds.{on_bounded, bounded_finite}
 use Rattle.ieee.proofs.Grid.{weaken, scale_on}
 use Rattle.ieee.proofs.Limits as Limits
 use Rattle.command.specs.declared.Refusal.TheVariants.{TooMany, OutOfRange, NoSuchCopy, NotFinite}
-use Rattle.command.specs.Outcomes.{Outcome, accepted, Check, ◌gives◌, checked, AllPass}
+use Rattle.command.specs.Outcomes.{Outcome, Check, ◌gives◌, checked, AllPass}
 use Rattle.command.proofs.Outcomes.{checks_relate}
 use Rattle.matrix.specs.declared.Matrix.{Matrix}
 use Rattle.repeater.specs.declared.RepeaterStyle.{RepeaterStyle}
@@ -76,15 +77,15 @@ module _ {k : ℕ} (K : k ≤ 6) where
     numbers_moved = λ i. a_same i ∷ b_same i ∷ c_same i ∷ d_same i ∷ M.e_twin.is i ∷ M.f_twin.is i ∷ O i ∷ []
 
     finite_moved : all_finite (copy_numbers m' o') ≡ all_finite (copy_numbers m o)
-    unfolding copy_numbers all_finite
+    unfolding copy_numbers
     finite_moved =
         λ i. finite (a_same i) && (finite (b_same i) && (finite (c_same i) && (finite (d_same i)
         && (finite_same M.e_twin i && (finite_same M.f_twin i && (finite (O i) && true))))))
 
     only_moved : finite_only (copy_numbers m' o') ≡ moved_answer k (finite_only (copy_numbers m o))
     only_moved =
-        (λ i. checked ((not (finite_moved i) gives NotFinite) ∷ []) (accepted (numbers_moved i)))
-        ∙ checks_moved k ((not (all_finite (copy_numbers m o)) gives NotFinite) ∷ []) (accepted (copy_numbers m o)) _ (λ pass. refl)
+        (λ i. checked ((not (finite_moved i) gives NotFinite) ∷ []) (Ok (numbers_moved i)))
+        ∙ checks_moved k ((not (all_finite (copy_numbers m o)) gives NotFinite) ∷ []) (Ok (copy_numbers m o)) _ (λ pass. refl)
 
   module _ (r r' : RepeaterStyle) (R : RepeaterTwin k r r') (turn_same : r'.rotation ≡ r.rotation) where
     numbers_alike : all_within repeater_limit (repeater_numbers r') ≡ all_within repeater_limit (repeater_numbers r)
@@ -104,7 +105,7 @@ module _ {k : ℕ} (K : k ≤ 6) where
 
     pub order_same : r'.mode ≡ r.mode → order_answer r' ≡ order_answer r
     unfolding order_answer copy_order
-    order_same e = λ i. checked (checks_same i) (accepted (order_of (e i) (count_same k r r' R i)))
+    order_same e = λ i. checked (checks_same i) (Ok (order_of (e i) (count_same k r r' R i)))
 
     module _ (copy : ℕ) where
       copy_alike : AllPass (repeater_checks r) → copy_answer r' copy ≡ moved_answer k (copy_answer r copy)

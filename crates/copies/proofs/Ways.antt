@@ -1,10 +1,11 @@
 -- What each way out of a function of this crate owes, as the code meets it: a premise for each test and for each call's result.
 -- Assumes nothing.
+use Rattle.std.specs.Prelude.{Ok, Err}
 use mathlib.Core.Path.{◌≡◌, refl, sym, ap, ◌∙◌, subst}
-use mathlib.Core.Bool.{Bool, true, false, cond, not, ◌&&◌, ◌||◌, true≢false, and-eq-true_iff}
-use mathlib.Core.List.{List, [], ◌∷◌}
+use mathlib.Core.Bool.{Bool, true, false, cond, not, ◌||◌, true≢false, and-eq-true_iff}
+use mathlib.Core.List.{List, [], ◌∷◌, ◌++◌}
 use Prim.Native.Nat.{ℕ, zero, suc, ◌+◌, ◌-◌, ◌*◌, ◌^◌, ◌≤◌, ◌<◌, zero-le}
-use native.Mathlib.Nat.{sub-zero, mul-one, le_trans, le_of_suc-le-suc, not-suc-le-zero}
+use native.Mathlib.Nat.{add-zero, zero-add, mul-one, le_trans, le_of_suc-le-suc, not-suc-le-zero}
 use native.Mathlib.Numerals.{add-one}
 use native.Mathlib.Omega.{arith}
 use lib.Dec.{T, eqb, lit≤, lit<}
@@ -12,9 +13,8 @@ use lib.Ieee.{Float, nan, inf, fin, lt, le, up, down, of_bits, of_fields}
 use lib.Ieee.Bits.{is_true}
 use lib.Ieee.Exact.{HasValue}
 use lib.Ieee.Fits.{down_pos}
-use lib.Ieee.Scale.{finite}
 use lib.ListN.{length, get_or, drop, set, length-set, drop_of_length-le}
-use lib.Seq.{sets, length-sets, drop-cons}
+use lib.Seq.{sets, drop-cons}
 use borrow.Author.Tests.{eq-eqb, ne_eqb, lt-ltb, le-ltb, le-leb, lt-leb, not-false}
 use Rattle.ieee.specs.Literal.{number_limit}
 use Rattle.ieee.specs.Sign.{abs, is_number}
@@ -25,201 +25,44 @@ use Rattle.ieee.proofs.Order.{le_number_l, not_lt→le}
 use Rattle.ieee.proofs.Whole.{up_mono}
 use Rattle.count.specs.Count.{count_up, count_limit}
 use Rattle.command.specs.declared.Refusal.{Refusal}
-use Rattle.command.specs.declared.Refusal.TheVariants.{TooMany, OutOfRange, NoSuchCopy, NotFinite, BufferTooSmall}
+use Rattle.command.specs.declared.Refusal.TheVariants.{NoSuchCopy, NotFinite, BufferTooSmall}
 use Rattle.command.specs.Refusals.{refusal_number}
-use Rattle.command.specs.Outcomes.{Outcome, refused, accepted, ◌gives◌, checked, AllPass}
+use Rattle.command.specs.Outcomes.{Outcome, number_of, value_or, ◌gives◌, checked, AllPass}
 use Rattle.command.specs.Buffers.{fitted, in_buffer, Filled}
-use Rattle.command.proofs.Buffers.{sets_append, fitted_accepted, fitted_refused, unfilled, filled}
+use Rattle.command.proofs.Buffers.{fitted_accepted, fitted_refused, unfilled, filled}
 use Rattle.matrix.specs.declared.Matrix.{Matrix}
 use Rattle.repeater.specs.declared.RepeaterStyle.{RepeaterStyle}
 use Rattle.repeater.specs.Repeater.{most_copies, most_offset, copy_count, copy_transform, copy_opacity}
-use Rattle.command.specs.declared.Verdict.{Verdict}
-use Rattle.command.specs.declared.Verdict.TheVariants.{Refused, Passed}
-use Rattle.command.specs.Verdicts.{verdict_of}
 use Rattle.command.proofs.Verdicts.{behind_refused, behind_passed, all_pass}
-use Rattle.copies.specs.declared.Written.{Written}
-use Rattle.copies.specs.Outcomes.{written_number, written_count}
 use Rattle.copies.specs.Order.{rising, falling, order_of, copy_order}
 use Rattle.copies.specs.Calls.{repeater_numbers, has_too_many, repeater_limit, repeater_checks}
 use Rattle.copies.specs.Calls.{order_answer, copy_numbers, all_finite, copy_answer, transform_answer}
 
--- ---- check_repeater
-module _ (r : RepeaterStyle) where
-  pub many_offset : lt most_copies r.copies ≡ false → (a : Float) → a ≡ abs r.offset → lt most_offset a ≡ has_too_many r
-  unfolding has_too_many
-  many_offset h a e = ap (lt most_offset) e ∙ rw h
+-- ---- copy_at
+rising_at : (i n place : ℕ) → place < n → i + place ≡ get_or (rising i n) place 0
+unfolding rising
+rising_at i zero place h = absurd (not-suc-le-zero h)
+rising_at i (suc n) zero h = add-zero i
+rising_at i (suc n) (suc place) h = let s : i + suc place ≡ suc i + place = omega arith in s ∙ rising_at (suc i) n place (le_of_suc-le-suc h)
 
-  pub many_copies : lt most_copies r.copies ≡ true → true ≡ has_too_many r
-  unfolding has_too_many
-  many_copies h = rw h
+falling_at : (n place : ℕ) → place < n → n - 1 - place ≡ get_or (falling n) place 0
+unfolding falling
+falling_at zero place h = absurd (not-suc-le-zero h)
+falling_at (suc n) zero h = let s : suc n - 1 - 0 ≡ n = omega arith in s
+falling_at (suc n) (suc place) h = let s : suc n - 1 - suc place ≡ n - 1 - place = omega arith in s ∙ falling_at n place (le_of_suc-le-suc h)
 
-  module _ (x : Bool) (x_is : x ≡ has_too_many r) where
-    pub verdict_many : x ≡ true → verdict_of (Refused TooMany) ≡ checked (repeater_checks r) (accepted tt)
-    unfolding repeater_checks
-    verdict_many t = rw (sym x_is ∙ t)
+module _ (mode n place : ℕ) (h : place < n) where
+  pub at_rising : mode ≡ 1 → place ≡ get_or (order_of mode n) place 0
+  unfolding order_of
+  at_rising e = rw (eq-eqb mode 1 e) (sym (zero-add place) ∙ rising_at 0 n place h)
 
-    module _ (few : x ≡ false) (y : Bool) (y_is : y ≡ all_within repeater_limit (repeater_numbers r)) where
-      pub verdict_beyond : y ≡ false → verdict_of (Refused OutOfRange) ≡ checked (repeater_checks r) (accepted tt)
-      unfolding repeater_checks
-      verdict_beyond t = rw (sym x_is ∙ few, sym y_is ∙ t)
+  pub at_falling : (mode ≡ 1 → ⊥) → n - 1 - place ≡ get_or (order_of mode n) place 0
+  unfolding order_of
+  at_falling e = rw (ne_eqb mode 1 e) (falling_at n place h)
 
-      pub verdict_passed : y ≡ true → verdict_of Passed ≡ checked (repeater_checks r) (accepted tt)
-      unfolding repeater_checks
-      verdict_passed t = rw (sym x_is ∙ few, sym y_is ∙ t)
-
-pub ruleset verdicts = (many_copies, many_offset, verdict_many, verdict_beyond, verdict_passed)
-
--- ---- put_rising, put_falling
--- the rest, written on the list as it is, gives the whole on the list as it was
-pub record Rising (n : ℕ) (l₀ l : List ℕ) (i : ℕ) : Type 0 where
-  pub rest : sets l i (rising i (n - i)) ≡ sets l₀ 0 (rising 0 n)
-  pub same : length l ≡ length l₀
-  pub inside : i ≤ n
-  pub room : n ≤ length l
-  pub few : n ≤ 4096
-
-pub rising_start : (n : ℕ) (l : List ℕ) → (n ≤ length l) × (n ≤ 4096) → Rising n l l 0
-rising_start n l h = record { rest = ap (λ (k : ℕ). sets l 0 (rising 0 k)) (sub-zero n); same = refl; inside = omega arith; room = h.0; few = h.1 }
-
-module _ {n : ℕ} {l₀ l : List ℕ} {i : ℕ} (R : Rising n l₀ l i) where
-  pub rising_place : i < n → i < length l
-  rising_place h = let a = R.room in omega arith
-
-  pub rising_small : i < n → i < 4294967296
-  rising_small h = let a = R.few in omega arith
-
-  pub rising_next : i < n → (i' : ℕ) → i' ≡ i + 1 → Rising n l₀ (set l i i) i'
-  rising_next h i' e = record {
-    rest =
-        let s : i' ≡ suc i = e ∙ add-one i in
-        let m : n - i ≡ suc (n - suc i) = omega arith in
-        ap (λ (k : ℕ). sets (set l i i) k (rising k (n - k))) s ∙ sym (ap (λ (k : ℕ). sets l i (rising i k)) m ∙ step i (n - suc i)) ∙ R.rest;
-    same = length-set l i i ∙ R.same;
-    inside = omega arith;
-    room = let a = R.room in subst (λ (k : ℕ). n ≤ k) (sym (length-set l i i)) a;
-    few = R.few;
-  }
-    where
-      step : (i m : ℕ) → sets l i (rising i (suc m)) ≡ sets (set l i i) (suc i) (rising (suc i) m)
-      step i m = unfold rising in refl
-
-  pub rising_end : n ≤ i → l ≡ sets l₀ 0 (rising 0 n)
-  rising_end h =
-      let z : n - i ≡ 0 = omega arith in
-      sym (none i) ∙ sym (ap (λ (k : ℕ). sets l i (rising i k)) z) ∙ R.rest
-    where
-      none : (i : ℕ) → sets l i (rising i 0) ≡ l
-      none i = unfold rising in refl
-
-pub ruleset risings = (rising_start, rising_place, rising_small, rising_next, rising_end)
-
-pub record Falling (n : ℕ) (l₀ l : List ℕ) (i left : ℕ) : Type 0 where
-  pub rest : sets l i (falling left) ≡ sets l₀ 0 (falling n)
-  pub same : length l ≡ length l₀
-  pub sum : i + left ≡ n
-  pub room : n ≤ length l
-  pub few : n ≤ 4096
-
-pub falling_start : (n : ℕ) (l : List ℕ) → (n ≤ length l) × (n ≤ 4096) → Falling n l l 0 n
-falling_start n l h = record { rest = refl; same = refl; sum = omega arith; room = h.0; few = h.1 }
-
-module _ {n : ℕ} {l₀ l : List ℕ} {i left : ℕ} (F : Falling n l₀ l i left) where
-  pub falling_place : 0 < left → i < length l
-  falling_place h = let a = F.room in let b = F.sum in omega arith
-
-  pub falling_small : 0 < left → left - 1 < 4294967296
-  falling_small h = let a = F.few in let b = F.sum in omega arith
-
-  pub falling_next : 0 < left → (i' left' : ℕ) → i' ≡ i + 1 → left' ≡ left - 1 → Falling n l₀ (set l i left') i' left'
-  falling_next h i' left' e f = record {
-    rest =
-        let s : i' ≡ suc i = e ∙ add-one i in
-        let m : left ≡ suc left' = omega arith in
-        ap (λ (k : ℕ). sets (set l i left') k (falling left')) s ∙ sym (ap (λ (k : ℕ). sets l i (falling k)) m ∙ step left') ∙ F.rest;
-    same = length-set l i left' ∙ F.same;
-    sum = let b = F.sum in omega arith;
-    room = let a = F.room in subst (λ (k : ℕ). n ≤ k) (sym (length-set l i left')) a;
-    few = F.few;
-  }
-    where
-      step : (m : ℕ) → sets l i (falling (suc m)) ≡ sets (set l i m) (suc i) (falling m)
-      step m = unfold falling in refl
-
-  pub falling_end : left ≤ 0 → l ≡ sets l₀ 0 (falling n)
-  falling_end h =
-      let z : left ≡ 0 = omega arith in
-      sym none ∙ sym (ap (λ (k : ℕ). sets l i (falling k)) z) ∙ F.rest
-    where
-      none : sets l i (falling 0) ≡ l
-      none = unfold falling in refl
-
-pub ruleset fallings = (falling_start, falling_place, falling_small, falling_next, falling_end)
+pub ruleset places = (at_rising, at_falling)
 
 -- ---- put_order
-module _ (mode n : ℕ) (l l' : List ℕ) where
-  pub order_rising : mode ≡ 1 → l' ≡ sets l 0 (rising 0 n) → l' ≡ sets l 0 (order_of mode n)
-  unfolding order_of
-  order_rising h e = e ∙ rw (eq-eqb mode 1 h)
-
-  pub order_falling : (mode ≡ 1 → ⊥) → l' ≡ sets l 0 (falling n) → l' ≡ sets l 0 (order_of mode n)
-  unfolding order_of
-  order_falling h e = e ∙ rw (ne_eqb mode 1 h)
-
-pub ruleset orders = (order_rising, order_falling)
-
--- ---- are_finite
--- the rest settles the answer
-pub finite_all : (v : List Float) → all_finite (drop 0 v) ≡ all_finite v
-finite_all v = refl
-
-module _ (v : List Float) (i : ℕ) (left : all_finite (drop i v) ≡ all_finite v) where
-  module _ (h : i < length v) (x : Bool) (x_is : x ≡ finite (get_or v i nan)) where
-    here : (finite (get_or v i nan) && all_finite (drop (suc i) v)) ≡ all_finite v
-    unfolding all_finite
-    here = ap all_finite (sym (drop-cons v i nan h)) ∙ left
-
-    pub finite_next : x ≡ true → (i' : ℕ) → i' ≡ i + 1 → all_finite (drop i' v) ≡ all_finite v
-    finite_next t i' e = ap (λ (k : ℕ). all_finite (drop k v)) (e ∙ add-one i) ∙ ap (λ (b : Bool). b && all_finite (drop (suc i) v)) (sym t ∙ x_is) ∙ here
-
-    pub finite_not : x ≡ false → false ≡ all_finite v
-    finite_not t = ap (λ (b : Bool). b && all_finite (drop (suc i) v)) (sym t ∙ x_is) ∙ here
-
-  pub finite_end : length v ≤ i → true ≡ all_finite v
-  unfolding all_finite
-  finite_end h = ap all_finite (sym (drop_of_length-le v {i = i} h)) ∙ left
-
-pub ruleset finites = (finite_all, finite_next, finite_not, finite_end)
-
--- ---- put_copy
-abbrev six : Matrix → List Float
-six m = m.a ∷ m.b ∷ m.c ∷ m.d ∷ m.e ∷ m.f ∷ []
-
-module _ (m : Matrix) (l l' : List Float) (last : ℕ) (e : l' ≡ sets l 0 (six m)) (f : last ≡ 0 + 6) where
-  pub copy_put : (o : Float) → set l' last o ≡ sets l 0 (copy_numbers m o)
-  unfolding copy_numbers
-  copy_put o = rw (e, f) (sym (sets_append (six m) (o ∷ []) l 0))
-
-  pub copy_place : 7 ≤ length l → last < length l'
-  copy_place h = rw (e, length-sets l 0 (six m)) (omega arith)
-
-pub ruleset puts = (copy_put, copy_place)
-
--- ---- the last check
-module _ {A : Type 0} (l : List A) where
-  module _ (xs : List A) (n : ℕ) (n_is : length xs ≡ n) where
-    fits : n ≤ length l → (l' : List A) → l' ≡ sets l 0 xs → Filled (fitted (in_buffer (length l)) (accepted xs)) 0 n l l'
-    fits h l' e =
-        let room : length xs ≤ length l = rw n_is h in
-        rw (fitted_accepted (in_buffer (length l)) xs (le-leb (length xs) (length l) room)) (filled xs l l' n room (sym n_is) e)
-
-    short : length l < n → Filled (fitted (in_buffer (length l)) (accepted xs)) (refusal_number BufferTooSmall) 0 l l
-    short h = rw (fitted_refused (in_buffer (length l)) xs (lt-leb (length xs) (length l) (rw n_is h))) (unfilled BufferTooSmall l)
-
-  turned_back : (r : Refusal) (o : Outcome (List A)) → o ≡ refused r → Filled (fitted (in_buffer (length l)) o) (refusal_number r) 0 l l
-  unfolding fitted
-  turned_back r o e = rw e (unfilled r l)
-
--- ---- write_order
 rising_length : (i n : ℕ) → length (rising i n) ≡ n
 unfolding rising
 rising_length i zero = refl
@@ -238,11 +81,60 @@ order_length mode n = go (eqb mode 1)
     go true = rising_length 0 n
     go false = falling_length n
 
+-- the numbers from a place on, written on the list as it is, give the whole on the list as it was
+pub record Putting (xs l₀ l : List ℕ) (i : ℕ) : Type 0 where
+  pub rest : sets l i (drop i xs) ≡ sets l₀ 0 xs
+  pub inside : i ≤ length xs
+  pub room : length xs ≤ length l
+
+module _ (mode n : ℕ) where
+  abbrev order : List ℕ
+  order = order_of mode n
+
+  pub putting_start : (l : List ℕ) → n ≤ length l → Putting order l l 0
+  putting_start l h = record { rest = refl; inside = omega arith; room = rw (order_length mode n) h }
+
+  module _ (l₀ l : List ℕ) (i : ℕ) (P : Putting order l₀ l i) where
+    pub putting_place : i < n → i < length l
+    putting_place h = let a = P.room in let e = order_length mode n in omega arith
+
+    pub putting_next : i < n → (x : ℕ) → x ≡ get_or order i 0 → Putting order l₀ (set l i x) (i + 1)
+    putting_next h x x_is = record {
+      rest =
+          let there : i < length order = rw (order_length mode n) h in
+          rw (add-one, x_is) (sym (ap (sets l i) (drop-cons order i 0 there)) ∙ P.rest);
+      inside = let e = order_length mode n in omega arith;
+      room = let a = P.room in rw (length-set) a;
+    }
+
+    pub putting_end : n ≤ i → l ≡ sets l₀ 0 order
+    putting_end h =
+        let past : length order ≤ i = rw (order_length mode n) h in
+        ap (sets l i) (sym (drop_of_length-le order {i = i} past)) ∙ P.rest
+
+pub ruleset puttings = (putting_start, putting_place, putting_next, putting_end)
+
+-- ---- the last check
+module _ {A : Type 0} (l : List A) where
+  module _ (xs : List A) (n : ℕ) (n_is : length xs ≡ n) where
+    fits : n ≤ length l → (l' : List A) → l' ≡ sets l 0 xs → Filled (fitted (in_buffer (length l)) (Ok xs)) 0 n l l'
+    fits h l' e =
+        let room : length xs ≤ length l = rw n_is h in
+        rw (fitted_accepted (in_buffer (length l)) xs (le-leb (length xs) (length l) room)) (filled xs l l' n room (sym n_is) e)
+
+    short : length l < n → Filled (fitted (in_buffer (length l)) (Ok xs)) (refusal_number BufferTooSmall) 0 l l
+    short h = rw (fitted_refused (in_buffer (length l)) xs (lt-leb (length xs) (length l) (rw n_is h))) (unfilled BufferTooSmall l)
+
+  turned_back : (r : Refusal) (o : Outcome (List A)) → o ≡ Err r → Filled (fitted (in_buffer (length l)) o) (refusal_number r) 0 l l
+  unfolding fitted
+  turned_back r o e = rw e (unfilled r l)
+
+-- ---- write_order
 module _ (mode n : ℕ) (l : List ℕ) where
-  pub order_written : (l' : List ℕ) → l' ≡ sets l 0 (order_of mode n) → n ≤ length l → Filled (fitted (in_buffer (length l)) (accepted (order_of mode n))) 0 n l l'
+  pub order_written : (l' : List ℕ) → l' ≡ sets l 0 (order_of mode n) → n ≤ length l → Filled (fitted (in_buffer (length l)) (Ok (order_of mode n))) 0 n l l'
   order_written l' e h = fits l (order_of mode n) n (order_length mode n) h l' e
 
-  pub order_short : length l < n → Filled (fitted (in_buffer (length l)) (accepted (order_of mode n))) (refusal_number BufferTooSmall) 0 l l
+  pub order_short : length l < n → Filled (fitted (in_buffer (length l)) (Ok (order_of mode n))) (refusal_number BufferTooSmall) 0 l l
   order_short h = short l (order_of mode n) n (order_length mode n) h
 
 pub ruleset writes = (order_written, order_short)
@@ -311,17 +203,17 @@ module _ (r : RepeaterStyle) (pass : AllPass (repeater_checks r)) where
   count_few = few r.copies (within_number r.copies copies_within) not_many.0
 
 -- ---- copy_order, copy_transform
-module _ (r : RepeaterStyle) (v : Verdict) (v_is : verdict_of v ≡ checked (repeater_checks r) (accepted tt)) where
-  module _ (f : Refusal) (e : v ≡ Refused f) where
+module _ (r : RepeaterStyle) (v : Outcome (Unit {0})) (v_is : v ≡ checked (repeater_checks r) (Ok tt)) where
+  module _ (f : Refusal) (e : v ≡ Err f) where
     pub order_refused : (l : List ℕ) → Filled (fitted (in_buffer (length l)) (order_answer r)) (refusal_number f) 0 l l
     unfolding order_answer
-    order_refused l = turned_back l f (order_answer r) (behind_refused (repeater_checks r) v v_is f e (accepted (copy_order r)))
+    order_refused l = turned_back l f (order_answer r) (behind_refused (repeater_checks r) v v_is f e (Ok (copy_order r)))
 
     pub copy_refused : (copy : ℕ) (l : List Float) → Filled (fitted (in_buffer (length l)) (transform_answer r copy)) (refusal_number f) 0 l l
     unfolding transform_answer
     copy_refused copy l = turned_back l f (transform_answer r copy) (behind_refused (repeater_checks r) v v_is f e (copy_answer r copy))
 
-  module _ (e : v ≡ Passed) where
+  module _ (e : v ≡ Ok tt) where
     pub repeater_passed : AllPass (repeater_checks r)
     repeater_passed = all_pass (repeater_checks r) v v_is e
 
@@ -329,10 +221,10 @@ module _ (r : RepeaterStyle) (v : Verdict) (v_is : verdict_of v ≡ checked (rep
     order_few n n_is = rw n_is (count_few r repeater_passed)
 
     module _ (number count : ℕ) where
-      pub order_passed : (n : ℕ) → n ≡ copy_count r → (l l' : List ℕ) → Filled (fitted (in_buffer (length l)) (accepted (order_of r.mode n))) number count l l'
+      pub order_passed : (n : ℕ) → n ≡ copy_count r → (l l' : List ℕ) → Filled (fitted (in_buffer (length l)) (Ok (order_of r.mode n))) number count l l'
           → Filled (fitted (in_buffer (length l)) (order_answer r)) number count l l'
       unfolding order_answer copy_order
-      order_passed n n_is l l' F = rw (behind_passed (repeater_checks r) v v_is e (accepted (copy_order r)), ← n_is) F
+      order_passed n n_is l l' F = rw (behind_passed (repeater_checks r) v v_is e (Ok (copy_order r)), ← n_is) F
 
       pub copy_passed : (copy : ℕ) (l l' : List Float) → Filled (fitted (in_buffer (length l)) (copy_answer r copy)) number count l l'
           → Filled (fitted (in_buffer (length l)) (transform_answer r copy)) number count l l'
@@ -342,31 +234,25 @@ module _ (r : RepeaterStyle) (v : Verdict) (v_is : verdict_of v ≡ checked (rep
 pub ruleset calls = (order_refused, copy_refused, repeater_passed, copies_within, order_few, order_passed, copy_passed)
 
 -- ---- write_copy
-pub finite_copy : (m : Matrix) (o : Float) (x : Bool) → x ≡ all_finite (m.a ∷ m.b ∷ m.c ∷ m.d ∷ m.e ∷ m.f ∷ o ∷ []) → x ≡ all_finite (copy_numbers m o)
-unfolding copy_numbers
-finite_copy m o x e = e
-
-seven : (m : Matrix) (o : Float) → length (copy_numbers m o) ≡ 7
-unfolding copy_numbers
-seven m o = refl
-
 -- numbers, refused where one is not finite
 abbrev pub finite_only : List Float → Outcome (List Float)
-finite_only xs = checked ((not (all_finite xs) gives NotFinite) ∷ []) (accepted xs)
+finite_only xs = checked ((not (all_finite xs) gives NotFinite) ∷ []) (Ok xs)
 
-module _ (m : Matrix) (o : Float) (x : Bool) (x_is : x ≡ all_finite (copy_numbers m o)) (l : List Float) where
-  pub copy_burst : x ≡ false → Filled (fitted (in_buffer (length l)) (finite_only (copy_numbers m o))) (refusal_number NotFinite) 0 l l
-  copy_burst t = turned_back l NotFinite (finite_only (copy_numbers m o)) (rw (sym x_is ∙ t))
+module _ (xs : List Float) (n_is : length xs ≡ 7) (x : Bool) (x_is : x ≡ all_finite xs) (l : List Float) where
+  pub copy_burst : x ≡ false → Filled (fitted (in_buffer (length l)) (finite_only xs)) (refusal_number NotFinite) 0 l l
+  copy_burst t = turned_back l NotFinite (finite_only xs) (rw (sym x_is ∙ t))
 
   module _ (t : x ≡ true) where
-    pub copy_short : length l < 7 → Filled (fitted (in_buffer (length l)) (finite_only (copy_numbers m o))) (refusal_number BufferTooSmall) 0 l l
-    copy_short h = rw (sym x_is ∙ t) (short l (copy_numbers m o) 7 (seven m o) h)
+    pub copy_short : length l < 7 → Filled (fitted (in_buffer (length l)) (finite_only xs)) (refusal_number BufferTooSmall) 0 l l
+    copy_short h = rw (sym x_is ∙ t) (short l xs 7 n_is h)
 
-    pub copy_written : 7 ≤ length l → (l' : List Float) → l' ≡ sets l 0 (copy_numbers m o)
-        → Filled (fitted (in_buffer (length l)) (finite_only (copy_numbers m o))) 0 7 l l'
-    copy_written h l' e = rw (sym x_is ∙ t) (fits l (copy_numbers m o) 7 (seven m o) h l' e)
+    pub copy_written : 7 ≤ length l → (ys : List Float) → ys ≡ xs → Filled (fitted (in_buffer (length l)) (finite_only xs)) 0 7 l (ys ++ drop 7 l)
+    copy_written h ys e =
+        let room : length xs ≤ length l = rw n_is h in
+        rw (sym x_is ∙ t, fitted_accepted (in_buffer (length l)) xs (le-leb (length xs) (length l) room))
+        (record { number_is = refl; count_is = sym n_is; content_is = (λ i. e i ++ drop (sym n_is i) l) })
 
-pub ruleset written = (finite_copy, copy_burst, copy_short, copy_written)
+pub ruleset written = (copy_burst, copy_short, copy_written)
 
 -- ---- write_sound
 module _ (r : RepeaterStyle) (pass : AllPass (repeater_checks r)) (n : ℕ) (n_is : n ≡ copy_count r) (copy : ℕ) where
@@ -382,20 +268,20 @@ module _ (r : RepeaterStyle) (pass : AllPass (repeater_checks r)) (n : ℕ) (n_i
     copy_small = let a = copy_few in le_trans a (lit≤ tt)
 
     pub copy_told : (m : Matrix) (o : Float) → m ≡ copy_transform r copy → o ≡ copy_opacity r copy → (number count : ℕ) (l l' : List Float)
-        → Filled (fitted (in_buffer (length l)) (finite_only (copy_numbers m o))) number count l l'
+        → Filled (fitted (in_buffer (length l)) (finite_only (m.a ∷ m.b ∷ m.c ∷ m.d ∷ m.e ∷ m.f ∷ o ∷ []))) number count l l'
         → Filled (fitted (in_buffer (length l)) (copy_answer r copy)) number count l l'
-    unfolding copy_answer
+    unfolding copy_answer copy_numbers
     copy_told m o m_is o_is number count l l' F = rw (lt-ltb copy (copy_count r) (subst (λ (k : ℕ). copy < k) n_is h), ← m_is, ← o_is) F
 
 pub ruleset sounds = (copies_within, offset_within, rotation_within, copy_missing, copy_few, copy_small, copy_told)
 
 -- ---- callers that tell the answer in a number and a count
-module _ (r r' : RepeaterStyle) (e : r ≡ r') (w : Written) (number count : ℕ) (number_is : number ≡ written_number w) (count_is : count ≡ written_count w) where
-  pub order_told : (l l' : List ℕ) → Filled (fitted (in_buffer (length l)) (order_answer r)) (written_number w) (written_count w) l l'
+module _ (r r' : RepeaterStyle) (e : r ≡ r') (w : Outcome ℕ) (number count : ℕ) (number_is : number ≡ number_of w) (count_is : count ≡ value_or 0 w) where
+  pub order_told : (l l' : List ℕ) → Filled (fitted (in_buffer (length l)) (order_answer r)) (number_of w) (value_or 0 w) l l'
       → Filled (fitted (in_buffer (length l)) (order_answer r')) number count l l'
   order_told l l' F = rw (number_is, count_is, ← e) F
 
-  pub transform_told : (copy : ℕ) (l l' : List Float) → Filled (fitted (in_buffer (length l)) (transform_answer r copy)) (written_number w) (written_count w) l l'
+  pub transform_told : (copy : ℕ) (l l' : List Float) → Filled (fitted (in_buffer (length l)) (transform_answer r copy)) (number_of w) (value_or 0 w) l l'
       → Filled (fitted (in_buffer (length l)) (transform_answer r' copy)) number count l l'
   transform_told copy l l' F = rw (number_is, count_is, ← e) F
 

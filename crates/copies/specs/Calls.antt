@@ -1,5 +1,6 @@
 -- What the two calls of a repeater answer, whatever they are given. Definitions only.
-use Rattle.std.specs.Prelude.{ℕ, Bool, true, not, ◌&&◌, ◌||◌, List, [], ◌∷◌, ltb, Float, get_or}
+use Rattle.std.specs.Prelude.{ℕ, Bool, not, ◌||◌, List, [], ◌∷◌, ltb, Float, get_or, Ok}
+use Rattle.std.specs.List.{list_all}
 use Rattle.std.specs.Float.{nan}
 use Rattle.std.specs.Float.Ieee.{lt}
 use Rattle.std.specs.Float.Ieee.Scale.{finite}
@@ -7,7 +8,7 @@ use Rattle.ieee.specs.Literal.{number_limit}
 use Rattle.ieee.specs.Sign.{abs}
 use Rattle.ieee.specs.Limit.{all_within}
 use Rattle.command.specs.declared.Refusal.TheVariants.{TooMany, OutOfRange, NoSuchCopy, NotFinite}
-use Rattle.command.specs.Outcomes.{Outcome, accepted, Check, ◌gives◌, checked}
+use Rattle.command.specs.Outcomes.{Outcome, Check, ◌gives◌, checked}
 use Rattle.matrix.specs.declared.Matrix.{Matrix}
 use Rattle.repeater.specs.declared.RepeaterStyle.{RepeaterStyle}
 use Rattle.repeater.specs.Repeater.{most_copies, most_offset, copy_count, copy_transform, copy_opacity}
@@ -47,21 +48,20 @@ repeater_checks r = (has_too_many r gives TooMany) ∷ (not (all_within repeater
 
 -- the copy order has no 9 and no 10
 unfoldable pub order_answer : RepeaterStyle → Outcome (List ℕ)
-order_answer r = checked (repeater_checks r) (accepted (copy_order r))
+order_answer r = checked (repeater_checks r) (Ok (copy_order r))
 
 -- a copy's matrix and opacity
 unfoldable pub copy_numbers : Matrix → Float → List Float
 copy_numbers m opacity = m.a ∷ m.b ∷ m.c ∷ m.d ∷ m.e ∷ m.f ∷ opacity ∷ []
 
-unfoldable pub all_finite : List Float → Bool
-all_finite [] = true
-all_finite (x ∷ xs) = finite x && all_finite xs
+abbrev pub all_finite : List Float → Bool
+all_finite xs = list_all finite xs
 
 -- a copy index that is not below the copy count is 9, and numbers of which one is not finite are 10
 unfoldable pub copy_answer : RepeaterStyle → ℕ → Outcome (List Float)
 copy_answer r copy =
     let numbers = copy_numbers (copy_transform r copy) (copy_opacity r copy) in
-    checked ((not (ltb copy (copy_count r)) gives NoSuchCopy) ∷ (not (all_finite numbers) gives NotFinite) ∷ []) (accepted numbers)
+    checked ((not (ltb copy (copy_count r)) gives NoSuchCopy) ∷ (not (all_finite numbers) gives NotFinite) ∷ []) (Ok numbers)
 
 unfoldable pub transform_answer : RepeaterStyle → ℕ → Outcome (List Float)
 transform_answer r copy = checked (repeater_checks r) (copy_answer r copy)

@@ -1,5 +1,4 @@
 -- The calls of a repeater: the order of its copies, and the numbers of one of them.
-pub mod Outcomes
 pub mod Order
 pub mod Calls
 pub mod Enlarged

@@ -1,4 +1,5 @@
 -- Closed cases of the definitions, each computed. Assumes nothing.
+use Rattle.std.specs.Prelude.{Ok, Err}
 use mathlib.Core.Path.{◌≡◌, refl}
 use mathlib.Core.Bool.{true}
 use mathlib.Core.List.{List, [], ◌∷◌}
@@ -10,7 +11,7 @@ use Rattle.ieee.specs.Remainder.{rem_euclid}
 use Rattle.ieee.specs.Root.{hypot_of, root_of, isqrt, root}
 use Rattle.ieee.specs.Whole.{round_away}
 use Rattle.command.specs.declared.Refusal.TheVariants.{OutOfRange, Unlisted, TooShort, OutOfBounds}
-use Rattle.command.specs.Outcomes.{Outcome, refused, accepted, mapped, value_or}
+use Rattle.command.specs.Outcomes.{Outcome, mapped, value_or}
 use Rattle.reader.specs.Read.{size_of_code, command_at, command_checks, read_command}
 use Rattle.judge.specs.Lists.{in_front, read_list, judge_list}
 use Rattle.curve.specs.Curve.{distance}
@@ -46,24 +47,24 @@ cuts t = lengths_answer t codes numbers
 abbrev PartCut : Type 0
 PartCut =
     cuts (trim (f 0x41c8_0000) (f 0x4296_0000) (f 0) 1)
-    ≡ accepted (One (f 0x3e80_0000) (f 0x3f40_0000), f 0x4060_0000 ∷ f 0x40e0_0000 ∷ f 0x4060_0000 ∷ [])
+    ≡ Ok (One (f 0x3e80_0000) (f 0x3f40_0000), f 0x4060_0000 ∷ f 0x40e0_0000 ∷ f 0x4060_0000 ∷ [])
 
 -- from 0 to 100, moved on by 90 degrees: two ranges, with 3.5, 10.5, 0 and 0, 3.5, 10.5
 abbrev TwoCut : Type 0
 TwoCut =
     cuts (trim (f 0) (f 0x42c8_0000) (f 0x42b4_0000) 1)
-    ≡ accepted (Two (f 0x3e80_0000) (f 0x3e80_0000), f 0x4060_0000 ∷ f 0x4128_0000 ∷ f 0 ∷ f 0 ∷ f 0x4060_0000 ∷ f 0x4128_0000 ∷ [])
+    ≡ Ok (Two (f 0x3e80_0000) (f 0x3e80_0000), f 0x4060_0000 ∷ f 0x4128_0000 ∷ f 0 ∷ f 0 ∷ f 0x4060_0000 ∷ f 0x4128_0000 ∷ [])
 
 -- from 0 to 100: the whole path, with 0, 14, 0, and marked so
 abbrev WholeCut : Type 0
-WholeCut = cuts (trim (f 0) (f 0x42c8_0000) (f 0) 2) ≡ accepted (One (f 0) (f 0x3f80_0000), f 0 ∷ f 0x4160_0000 ∷ f 0 ∷ [])
+WholeCut = cuts (trim (f 0) (f 0x42c8_0000) (f 0) 2) ≡ Ok (One (f 0) (f 0x3f80_0000), f 0 ∷ f 0x4160_0000 ∷ f 0 ∷ [])
 
 abbrev WholeMarked : Type 0
 WholeMarked = value_or 7 (mapped told_mark (cuts (trim (f 0) (f 0x42c8_0000) (f 0) 2))) ≡ 1
 
 -- from 30 to 30: no range, and no number
 abbrev NothingCut : Type 0
-NothingCut = cuts (trim (f 0x41f0_0000) (f 0x41f0_0000) (f 0) 1) ≡ accepted (Nothing, [])
+NothingCut = cuts (trim (f 0x41f0_0000) (f 0x41f0_0000) (f 0) 1) ≡ Ok (Nothing, [])
 
 abbrev NothingCounted : Type 0
 NothingCounted = value_or 7 (mapped told_count (cuts (trim (f 0x41f0_0000) (f 0x41f0_0000) (f 0) 1))) ≡ 0
@@ -72,14 +73,14 @@ NothingCounted = value_or 7 (mapped told_count (cuts (trim (f 0x41f0_0000) (f 0x
 abbrev MinusZeroCut : Type 0
 MinusZeroCut =
     cuts (trim (f 0x8000_0000) (f 0x4248_0000) (f 0x8000_0000) 1)
-    ≡ accepted (One (f 0x8000_0000) (f 0x3f00_0000), f 0 ∷ f 0x40e0_0000 ∷ f 0x40e0_0000 ∷ [])
+    ≡ Ok (One (f 0x8000_0000) (f 0x3f00_0000), f 0 ∷ f 0x40e0_0000 ∷ f 0x40e0_0000 ∷ [])
 
 -- a line of 2 ^ -23 is too short, and the next longer one is not
 abbrev LineShort : Type 0
-LineShort = trim_lengths (trim (f 0) (f 0) (f 0) 1) (0 ∷ 1 ∷ []) (f 0 ∷ f 0 ∷ f 0x3400_0000 ∷ f 0 ∷ []) ≡ refused TooShort
+LineShort = trim_lengths (trim (f 0) (f 0) (f 0) 1) (0 ∷ 1 ∷ []) (f 0 ∷ f 0 ∷ f 0x3400_0000 ∷ f 0 ∷ []) ≡ Err TooShort
 
 abbrev LineLong : Type 0
-LineLong = trim_lengths (trim (f 0) (f 0) (f 0) 1) (0 ∷ 1 ∷ []) (f 0 ∷ f 0 ∷ f 0x3400_0001 ∷ f 0 ∷ []) ≡ accepted (f 0x3400_0001, Nothing)
+LineLong = trim_lengths (trim (f 0) (f 0) (f 0) 1) (0 ∷ 1 ∷ []) (f 0 ∷ f 0 ∷ f 0x3400_0001 ∷ f 0 ∷ []) ≡ Ok (f 0x3400_0001, Nothing)
 
 cut : PartCut × TwoCut × WholeCut × WholeMarked × NothingCut × NothingCounted × MinusZeroCut × LineShort × LineLong
 unfolding is_full_trim_segments lengths_answer trim_lengths is_finite_trim is_trim_mode cut_measured part_of max normalized_trim_segments offset_of placed_at snapped near
@@ -91,29 +92,29 @@ cut = (refl, refl, refl, refl, refl, refl, refl, refl, refl)
 -- refusals in their order: the numbers, the mode, the list, its length
 module _ (codes : List ℕ) (numbers : List Float) where
   -- a start that is no number comes before a mode that is not listed, and this before any list
-  start_first : trim_lengths (trim nan (f 0) (f 0) 3) codes numbers ≡ refused OutOfRange
+  start_first : trim_lengths (trim nan (f 0) (f 0) 3) codes numbers ≡ Err OutOfRange
   unfolding trim_lengths is_finite_trim
   start_first = refl
 
-  offset_first : trim_lengths (trim (f 0) (f 0) (inf true) 3) codes numbers ≡ refused OutOfRange
+  offset_first : trim_lengths (trim (f 0) (f 0) (inf true) 3) codes numbers ≡ Err OutOfRange
   unfolding trim_lengths is_finite_trim of_bits of_fields
   offset_first = refl
 
-  mode_next : trim_lengths (trim (f 0) (f 0) (f 0) 3) codes numbers ≡ refused Unlisted
+  mode_next : trim_lengths (trim (f 0) (f 0) (f 0) 3) codes numbers ≡ Err Unlisted
   unfolding trim_lengths is_finite_trim is_trim_mode of_bits of_fields
   mode_next = refl
 
 -- a number is left over, so that the length 0 of the list is not looked at
-list_next : trim_lengths (trim (f 0) (f 0) (f 0) 1) (3 ∷ []) (nan ∷ []) ≡ refused OutOfBounds
+list_next : trim_lengths (trim (f 0) (f 0) (f 0) 1) (3 ∷ []) (nan ∷ []) ≡ Err OutOfBounds
 unfolding trim_lengths is_finite_trim is_trim_mode cut_measured measure_list judge_list read_list in_front read_command command_checks size_of_code all_within of_bits of_fields
 list_next = refl
 
-empty_last : trim_lengths (trim (f 0) (f 0) (f 0) 1) [] [] ≡ refused TooShort
+empty_last : trim_lengths (trim (f 0) (f 0) (f 0) 1) [] [] ≡ Err TooShort
 unfolding trim_lengths is_finite_trim is_trim_mode cut_measured measure_list judge_list read_list path_length length_after steps start_pen le of_bits of_fields
 empty_last = refl
 
 -- the ranges alone: the mode is not read
-ranges : ranges_answer (trim (f 0) (f 0x42c8_0000) (f 0) 3) ≡ accepted (One (f 0) (f 0x3f80_0000), f 0 ∷ f 0x3f80_0000 ∷ [])
+ranges : ranges_answer (trim (f 0) (f 0x42c8_0000) (f 0) 3) ≡ Ok (One (f 0) (f 0x3f80_0000), f 0 ∷ f 0x3f80_0000 ∷ [])
 unfolding ranges_answer trim_ranges is_finite_trim normalized_trim_segments offset_of placed_at snapped near near_both is_whole ranges_between lower upper rem_euclid
     round_away clamp add sub mul div rem lt le neg sum round units size span climb odd of_bits of_fields
 ranges = refl

@@ -1,4 +1,5 @@
 -- A path enlarged by a power of two has the same ranges, and its cut lengths are multiplied; one that is not too short stays so. Assumes nothing.
+use Rattle.std.specs.Prelude.{Ok, Err}
 use mathlib.Core.Path.{◌≡◌, refl, sym, subst, ◌∙◌}
 use mathlib.Core.Bool.{Bool, true, false, true≢false, and-eq-true_iff}
 use mathlib.Core.List.{List, [], ◌∷◌, map}
@@ -21,7 +22,7 @@ use Rattle.command.specs.declared.Refusal.{Refusal}
 use Rattle.command.specs.declared.Refusal.TheVariants.{TooShort}
 use Rattle.command.specs.Commands.{codes_of, numbers_of}
 use Rattle.command.specs.Enlarged.{AllOn, Twins}
-use Rattle.command.specs.Outcomes.{Outcome, refused, accepted, mapped, and_then, list_of, ◌gives◌, checked}
+use Rattle.command.specs.Outcomes.{Outcome, mapped, and_then, list_of, ◌gives◌, checked}
 use Rattle.command.proofs.Outcomes.{refused_accepted, checks_relate, checks_hold}
 use Rattle.judge.specs.Lists.{judge_list}
 use Rattle.judge.proofs.Enlarged.{length_check, judged_first, judged_enlarged}
@@ -83,23 +84,23 @@ short_twin k q b total total' L h = go (le total' shortest) (le_shrunk k q b tot
     go true f = absurd (subst T h (f tt))
 
 -- ---- the answers
-refused_is : {A : Type 0} (q r : Refusal) → ◌≡◌ {A = Outcome A} (refused q) (refused r) → q ≡ r
+refused_is : {A : Type 0} (q r : Refusal) → ◌≡◌ {A = Outcome A} (Err q) (Err r) → q ≡ r
 refused_is q r e = cc
 
 -- one refusal for both
-refused_alike : (k : ℕ) (r : Refusal) → CutsAlike k (refused r) (refused r)
+refused_alike : (k : ℕ) (r : Refusal) → CutsAlike k (Err r) (Err r)
 refused_alike k r = record { long = λ _. refl; short = λ e q f. sym (refused_is r q f) ∙ refused_is r TooShort e }
 
 -- the answer about a length, by whether it is too short
 abbrev cut_or : Bool → Float → Ranges → Outcome (Ranges × List Float)
-cut_or short total ranges = mapped with_cuts (checked ((short gives TooShort) ∷ []) (accepted (total, ranges)))
+cut_or short total ranges = mapped with_cuts (checked ((short gives TooShort) ∷ []) (Ok (total, ranges)))
 
 module _ (k : ℕ) (ranges : Ranges) (x x' : Float) (multiplied : cut_all x' (range_ends ranges) ≡ map (scale k) (cut_all x (range_ends ranges))) where
   short_alike : (s s' : Bool) → (s ≡ false → s' ≡ false) → CutsAlike k (cut_or s x ranges) (cut_or s' x' ranges)
   short_alike true true longer = refused_alike k TooShort
   short_alike true false longer = record { long = λ n. absurd (n refl); short = λ e q f. refused_accepted q _ (sym f) }
   short_alike false true longer = absurd (true≢false (longer refl))
-  short_alike false false longer = record { long = λ n i. accepted (ranges, multiplied i); short = λ e q f. refused_accepted TooShort _ (sym e) }
+  short_alike false false longer = record { long = λ n i. Ok (ranges, multiplied i); short = λ e q f. refused_accepted TooShort _ (sym e) }
 
 -- the ends of the ranges of a trim
 abbrev pub trim_ends : TrimStyle → List Float
@@ -115,11 +116,11 @@ finite_ends trim e =
 
 -- commands of which none is refused: only their number counts
 abbrev pub JudgedBy : ℕ → List PathCommand → Type 0
-JudgedBy n cs = judge_list (codes_of cs) (numbers_of cs) ≡ checked (length_check n) (accepted cs)
+JudgedBy n cs = judge_list (codes_of cs) (numbers_of cs) ≡ checked (length_check n) (Ok cs)
 
 module _ (trim : TrimStyle) where
   -- what holds of every two refusals that are the same, and of two paths cut at ends on the grid, holds of the answers about two lists
-  answers_relate : (R : Outcome (Ranges × List Float) → Outcome (Ranges × List Float) → Type 0) → ((r : Refusal) → R (refused r) (refused r))
+  answers_relate : (R : Outcome (Ranges × List Float) → Outcome (Ranges × List Float) → Type 0) → ((r : Refusal) → R (Err r) (Err r))
       → (n : ℕ) (cs cs' : List PathCommand) → JudgedBy n cs → JudgedBy n cs'
       → (AllOn 37 0 (trim_ends trim) → R (mapped with_cuts (cut_measured trim (path_length cs))) (mapped with_cuts (cut_measured trim (path_length cs'))))
       → R (lengths_answer trim (codes_of cs) (numbers_of cs)) (lengths_answer trim (codes_of cs') (numbers_of cs'))
@@ -127,7 +128,7 @@ module _ (trim : TrimStyle) where
   answers_relate R none n cs cs' first second last =
       checks_relate (λ (o o' : Outcome (Float × Ranges)). R (mapped with_cuts o) (mapped with_cuts o')) none (trim_checks trim) _ _
       (λ pass. rw (first, second)
-      (checks_relate (λ (o o' : Outcome (List PathCommand)). R (cut o) (cut o')) none (length_check n) (accepted cs) (accepted cs')
+      (checks_relate (λ (o o' : Outcome (List PathCommand)). R (cut o) (cut o')) none (length_check n) (Ok cs) (Ok cs')
       (λ few. last (finite_ends trim (checks_finite trim pass)))))
     where
       cut : Outcome (List PathCommand) → Outcome (Ranges × List Float)

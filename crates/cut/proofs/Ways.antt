@@ -1,5 +1,6 @@
 -- What each way out of a function of this crate owes, as the code meets it: a premise for each test and for each call's result.
 -- Assumes nothing.
+use Rattle.std.specs.Prelude.{Ok, Err}
 use mathlib.Core.Path.{◌≡◌, refl, sym, ap, ◌∙◌}
 use mathlib.Core.Bool.{Bool, true, false, cond}
 use mathlib.Core.List.{List, [], ◌∷◌, ◌++◌}
@@ -18,77 +19,42 @@ use Rattle.ieee.specs.Choice.{max}
 use Rattle.command.specs.declared.Refusal.{Refusal}
 use Rattle.command.specs.declared.Refusal.TheVariants.{OutOfRange, Unlisted, TooShort}
 use Rattle.command.specs.Refusals.{refusal_number}
-use Rattle.command.specs.Outcomes.{Outcome, refused, accepted, mapped, and_then, AllPass}
+use Rattle.command.specs.Outcomes.{Outcome, mapped, and_then, AllPass}
 use Rattle.command.specs.Buffers.{onto}
 use Rattle.command.proofs.Buffers.{sets_append, sets_onto, unfilled}
-use Rattle.length.specs.declared.Measured.{Measured}
-use Rattle.length.specs.declared.Measured.TheVariants as measured
-use Rattle.length.specs.Lists.{measure_list, measured_of}
+use Rattle.length.specs.Lists.{measure_list}
 use Rattle.trim.specs.declared.TrimStyle.{TrimStyle}
 use Rattle.trim.specs.declared.Ranges.{Ranges}
 use Rattle.trim.specs.declared.Ranges.TheVariants.{Nothing, One, Two}
 use Rattle.trim.specs.Trim.{normalized_trim_segments, is_full_trim_segments}
 use Rattle.trim.specs.Ranges.{range_count, range_ends}
 use Rattle.cut.specs.declared.Cuts.{Cuts}
-use Rattle.cut.specs.declared.Shown.{Shown}
-use Rattle.cut.specs.declared.Shown.TheVariants as shown
-use Rattle.cut.specs.declared.Trimmed.{Trimmed}
-use Rattle.cut.specs.declared.Trimmed.TheVariants as trimmed
 use Rattle.cut.specs.Cuts.{part_of, cuts_of, cut_numbers, cut_all}
-use Rattle.cut.specs.Calls.{is_finite_trim, trim_ranges, is_trim_mode, shortest, cut_measured, trim_checks, trim_lengths, shown_of, trimmed_of}
+use Rattle.cut.specs.Calls.{is_finite_trim, trim_ranges, is_trim_mode, shortest, cut_measured, trim_checks, trim_lengths}
 use Rattle.cut.specs.Answers.{with_ends, ranges_answer, with_cuts, lengths_answer, mark_of, Placed}
-
--- ---- is_finite_trim
-module _ (trim : TrimStyle) (x : Bool) (x_is : x ≡ finite trim.start) where
-  pub start_wrong : x ≡ false → false ≡ is_finite_trim trim
-  unfolding is_finite_trim
-  start_wrong t = rw (sym x_is ∙ t)
-
-  module _ (right : x ≡ true) (y : Bool) (y_is : y ≡ finite trim.end) where
-    pub end_wrong : y ≡ false → false ≡ is_finite_trim trim
-    unfolding is_finite_trim
-    end_wrong t = rw (sym x_is ∙ right, sym y_is ∙ t)
-
-    pub offset_last : y ≡ true → (z : Bool) → z ≡ finite trim.offset_degrees → z ≡ is_finite_trim trim
-    unfolding is_finite_trim
-    offset_last t z z_is = z_is ∙ rw (sym x_is ∙ right, sym y_is ∙ t)
-
-pub ruleset numbers = (start_wrong, end_wrong, offset_last)
-
--- ---- is_trim_mode
-module _ (mode : ℕ) where
-  pub mode_one : mode ≡ 1 → true ≡ is_trim_mode mode
-  unfolding is_trim_mode
-  mode_one e = rw (eq-eqb mode 1 e)
-
-  pub mode_other : (mode ≡ 1 → ⊥) → eqb mode 2 ≡ is_trim_mode mode
-  unfolding is_trim_mode
-  mode_other e = rw (ne_eqb mode 1 e)
-
-pub ruleset modes = (mode_one, mode_other)
 
 -- ---- the calls
 module _ (trim : TrimStyle) (x : Bool) (x_is : x ≡ is_finite_trim trim) where
-  pub ranges_visible : (r : Ranges) → r ≡ normalized_trim_segments trim → x ≡ true → accepted r ≡ trim_ranges trim
+  pub ranges_visible : (r : Ranges) → r ≡ normalized_trim_segments trim → x ≡ true → Ok r ≡ trim_ranges trim
   unfolding trim_ranges
-  ranges_visible r r_is t = ap accepted r_is ∙ rw (sym x_is ∙ t)
+  ranges_visible r r_is t = ap Ok r_is ∙ rw (sym x_is ∙ t)
 
-  pub ranges_refused : x ≡ false → refused OutOfRange ≡ trim_ranges trim
+  pub ranges_refused : x ≡ false → Err OutOfRange ≡ trim_ranges trim
   unfolding trim_ranges
   ranges_refused t = rw (sym x_is ∙ t)
 
   module _ (codes : List ℕ) (numbers : List Float) where
-    pub lengths_beyond : x ≡ false → refused OutOfRange ≡ trim_lengths trim codes numbers
+    pub lengths_beyond : x ≡ false → Err OutOfRange ≡ trim_lengths trim codes numbers
     unfolding trim_lengths
     lengths_beyond t = rw (sym x_is ∙ t)
 
     module _ (right : x ≡ true) (y : Bool) (y_is : y ≡ is_trim_mode trim.mode) where
-      pub lengths_unlisted : y ≡ false → refused Unlisted ≡ trim_lengths trim codes numbers
+      pub lengths_unlisted : y ≡ false → Err Unlisted ≡ trim_lengths trim codes numbers
       unfolding trim_lengths
       lengths_unlisted t = rw (sym x_is ∙ right, sym y_is ∙ t)
 
-      pub lengths_measured : y ≡ true → (m : Measured) → measured_of m ≡ measure_list codes numbers
-          → (r : Trimmed) → trimmed_of r ≡ and_then (measured_of m) (cut_measured trim) → trimmed_of r ≡ trim_lengths trim codes numbers
+      pub lengths_measured : y ≡ true → (m : Outcome Float) → m ≡ measure_list codes numbers
+          → (r : Outcome (Float × Ranges)) → r ≡ and_then m (cut_measured trim) → r ≡ trim_lengths trim codes numbers
       unfolding trim_lengths
       lengths_measured t m m_is r r_is = rw (sym x_is ∙ right, sym y_is ∙ t, ← m_is) r_is
 
@@ -96,21 +62,7 @@ module _ (trim : TrimStyle) (x : Bool) (x_is : x ≡ is_finite_trim trim) where
 pub checks_finite : (trim : TrimStyle) → AllPass (trim_checks trim) → is_finite_trim trim ≡ true
 checks_finite trim pass = not-false _ pass.0
 
-module _ (trim : TrimStyle) (m : Measured) where
-  pub measured_refused : (r : Refusal) → m ≡ measured.Refused r → refused r ≡ and_then (measured_of m) (cut_measured trim)
-  measured_refused r e = rw e
-
-  module _ (x : Float) (e : m ≡ measured.Length x) where
-    pub measured_short : le x shortest ≡ true → refused TooShort ≡ and_then (measured_of m) (cut_measured trim)
-    unfolding cut_measured
-    measured_short t = rw (e, t)
-
-    pub measured_cut : le x shortest ≡ false → (r : Ranges) → r ≡ normalized_trim_segments trim
-        → accepted (x, r) ≡ and_then (measured_of m) (cut_measured trim)
-    unfolding cut_measured
-    measured_cut t r r_is = rw (e, t, r_is)
-
-pub ruleset calls = (ranges_visible, ranges_refused, lengths_beyond, lengths_unlisted, lengths_measured, measured_refused, measured_short, measured_cut)
+pub ruleset calls = (ranges_visible, ranges_refused, lengths_beyond, lengths_unlisted, lengths_measured)
 
 -- ---- cut lengths
 pub part_way : (x part r : Float) → r ≡ max (x ⊗ part) zero32 → r ≡ part_of x part
@@ -184,10 +136,10 @@ pub ruleset lengths = (lengths_nothing, lengths_one, room_after, lengths_two)
 
 -- ---- callers that tell the answer in places
 module _ (width : ℕ) (o : Outcome (Ranges × List Float)) (l : List Float) (mark : ℕ) where
-  unplaced : (r : Refusal) → refused r ≡ o → Placed width o (refusal_number r) 0 l l mark mark
+  unplaced : (r : Refusal) → Err r ≡ o → Placed width o (refusal_number r) 0 l l mark mark
   unplaced r is = rw (← is) (record { numbers_filled = rw mul-zero (unfilled r l); count_is = refl; mark_told = record { number_is = refl; value_is = refl } })
 
-  placed : (r : Ranges) (xs l' : List Float) → accepted (r, xs) ≡ o → width * range_count r ≡ length xs → l' ≡ onto xs l
+  placed : (r : Ranges) (xs l' : List Float) → Ok (r, xs) ≡ o → width * range_count r ≡ length xs → l' ≡ onto xs l
       → Placed width o 0 (range_count r) l l' mark (mark_of r)
   placed r xs l' is wide l_is = rw (← is) (record {
     numbers_filled = record { number_is = refl; count_is = wide; content_is = l_is };
@@ -207,30 +159,30 @@ three_wide x (One a b) = refl
 three_wide x (Two a b) = refl
 
 module _ (trim : TrimStyle) (l : List Float) (mark : ℕ) where
-  module _ (s : Shown) (s_is : shown_of s ≡ trim_ranges trim) where
-    pub ranges_turned_back : (r : Refusal) (n : ℕ) → n ≡ refusal_number r → s ≡ shown.Refused r → Placed 2 (ranges_answer trim) n 0 l l mark mark
+  module _ (s : Outcome Ranges) (s_is : s ≡ trim_ranges trim) where
+    pub ranges_turned_back : (r : Refusal) (n : ℕ) → n ≡ refusal_number r → s ≡ Err r → Placed 2 (ranges_answer trim) n 0 l l mark mark
     unfolding ranges_answer
-    ranges_turned_back r n n_is e = rw n_is (unplaced 2 (ranges_answer trim) l mark r (ap (mapped with_ends) (ap shown_of (sym e) ∙ s_is)))
+    ranges_turned_back r n n_is e = rw n_is (unplaced 2 (ranges_answer trim) l mark r (ap (mapped with_ends) (sym e ∙ s_is)))
 
     pub ranges_told : (r : Ranges) (l' : List Float) (count mark' : ℕ) → l' ≡ onto (range_ends r) l → count ≡ range_count r → mark' ≡ mark_of r
-        → s ≡ shown.Visible r → Placed 2 (ranges_answer trim) 0 count l l' mark mark'
+        → s ≡ Ok r → Placed 2 (ranges_answer trim) 0 count l l' mark mark'
     unfolding ranges_answer
     ranges_told r l' count mark' l_is count_is m_is e =
-        rw (count_is, m_is) (placed 2 (ranges_answer trim) l mark r (range_ends r) l' (ap (mapped with_ends) (ap shown_of (sym e) ∙ s_is)) (two_wide r) l_is)
+        rw (count_is, m_is) (placed 2 (ranges_answer trim) l mark r (range_ends r) l' (ap (mapped with_ends) (sym e ∙ s_is)) (two_wide r) l_is)
 
-  module _ (codes : List ℕ) (numbers : List Float) (s : Trimmed) (s_is : trimmed_of s ≡ trim_lengths trim codes numbers) where
-    pub lengths_turned_back : (r : Refusal) (n : ℕ) → n ≡ refusal_number r → s ≡ trimmed.Refused r
+  module _ (codes : List ℕ) (numbers : List Float) (s : Outcome (Float × Ranges)) (s_is : s ≡ trim_lengths trim codes numbers) where
+    pub lengths_turned_back : (r : Refusal) (n : ℕ) → n ≡ refusal_number r → s ≡ Err r
         → Placed 3 (lengths_answer trim codes numbers) n 0 l l mark mark
     unfolding lengths_answer
     lengths_turned_back r n n_is e =
-        rw n_is (unplaced 3 (lengths_answer trim codes numbers) l mark r (ap (mapped with_cuts) (ap trimmed_of (sym e) ∙ s_is)))
+        rw n_is (unplaced 3 (lengths_answer trim codes numbers) l mark r (ap (mapped with_cuts) (sym e ∙ s_is)))
 
     pub lengths_told : (x : Float) (r : Ranges) (l' : List Float) (count mark' : ℕ) → l' ≡ onto (cut_all x (range_ends r)) l
-        → count ≡ range_count r → mark' ≡ mark_of r → s ≡ trimmed.Cut x r → Placed 3 (lengths_answer trim codes numbers) 0 count l l' mark mark'
+        → count ≡ range_count r → mark' ≡ mark_of r → s ≡ Ok (x, r) → Placed 3 (lengths_answer trim codes numbers) 0 count l l' mark mark'
     unfolding lengths_answer
     lengths_told x r l' count mark' l_is count_is m_is e =
         rw (count_is, m_is)
         (placed 3 (lengths_answer trim codes numbers) l mark r (cut_all x (range_ends r)) l'
-        (ap (mapped with_cuts) (ap trimmed_of (sym e) ∙ s_is)) (three_wide x r) l_is)
+        (ap (mapped with_cuts) (sym e ∙ s_is)) (three_wide x r) l_is)
 
 pub ruleset telling = (ranges_turned_back, ranges_told, lengths_turned_back, lengths_told)

@@ -1,18 +1,14 @@
 -- What the two calls of a trim answer, whatever they are given. Definitions only.
-use Rattle.std.specs.Prelude.{ℕ, Bool, not, ◌&&◌, ◌||◌, List, [], ◌∷◌, eqb, Float}
+use Rattle.std.specs.Prelude.{ℕ, Bool, not, ◌&&◌, ◌||◌, List, [], ◌∷◌, eqb, Float, Ok, Err}
 use Rattle.std.specs.Float.Ieee.{le}
 use Rattle.std.specs.Float.Ieee.Scale.{finite}
 use Rattle.ieee.specs.Literal.{epsilon32}
 use Rattle.command.specs.declared.Refusal.TheVariants.{OutOfRange, Unlisted, TooShort}
-use Rattle.command.specs.Outcomes.{Outcome, refused, accepted, and_then, Check, ◌gives◌, checked}
+use Rattle.command.specs.Outcomes.{Outcome, and_then, Check, ◌gives◌, checked}
 use Rattle.length.specs.Lists.{measure_list}
 use Rattle.trim.specs.declared.TrimStyle.{TrimStyle}
 use Rattle.trim.specs.declared.Ranges.{Ranges}
 use Rattle.trim.specs.Trim.{normalized_trim_segments}
-use Rattle.cut.specs.declared.Shown.{Shown}
-use Rattle.cut.specs.declared.Shown.TheVariants as shown
-use Rattle.cut.specs.declared.Trimmed.{Trimmed}
-use Rattle.cut.specs.declared.Trimmed.TheVariants as trimmed
 
 -- start, end and offset need only be finite
 unfoldable pub is_finite_trim : TrimStyle → Bool
@@ -20,7 +16,7 @@ is_finite_trim trim = finite trim.start && (finite trim.end && finite trim.offse
 
 -- the ranges alone read no mode
 unfoldable pub trim_ranges : TrimStyle → Outcome Ranges
-trim_ranges trim = checked ((not (is_finite_trim trim) gives OutOfRange) ∷ []) (accepted (normalized_trim_segments trim))
+trim_ranges trim = checked ((not (is_finite_trim trim) gives OutOfRange) ∷ []) (Ok (normalized_trim_segments trim))
 
 -- the modes 1 and 2 are listed
 unfoldable pub is_trim_mode : ℕ → Bool
@@ -32,7 +28,7 @@ shortest = epsilon32
 
 -- a path of this length, with the ranges of its trim: 8 where it is too short
 unfoldable pub cut_measured : TrimStyle → Float → Outcome (Float × Ranges)
-cut_measured trim x = checked ((le x shortest gives TooShort) ∷ []) (accepted (x, normalized_trim_segments trim))
+cut_measured trim x = checked ((le x shortest gives TooShort) ∷ []) (Ok (x, normalized_trim_segments trim))
 
 -- the trim's numbers (3) and mode (4) come before the command list, then 8
 abbrev pub trim_checks : TrimStyle → List Check
@@ -40,12 +36,3 @@ trim_checks trim = (not (is_finite_trim trim) gives OutOfRange) ∷ (not (is_tri
 
 unfoldable pub trim_lengths : TrimStyle → List ℕ → List Float → Outcome (Float × Ranges)
 trim_lengths trim codes numbers = checked (trim_checks trim) (and_then (measure_list codes numbers) (cut_measured trim))
-
--- the outcomes that a `Shown` and a `Trimmed` are
-abbrev pub shown_of : Shown → Outcome Ranges
-shown_of (shown.Refused r) = refused r
-shown_of (shown.Visible ranges) = accepted ranges
-
-abbrev pub trimmed_of : Trimmed → Outcome (Float × Ranges)
-trimmed_of (trimmed.Refused r) = refused r
-trimmed_of (trimmed.Cut total ranges) = accepted (total, ranges)

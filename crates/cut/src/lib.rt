@@ -3,20 +3,14 @@
 
 ghost use Rattle.std.specs.Prelude.{◌≡◌, ◌+◌, ◌≤◌, length};
 ghost use Rattle.std.proofs.lemmas.List.Edits.{sets};
-ghost use Rattle.command.specs.Outcomes.{and_then};
 ghost use Rattle.command.specs.Buffers.{onto};
-ghost use Rattle.length.specs.Lists.{measured_of};
 ghost use Rattle.trim.specs.Ranges.{range_ends};
 ghost use Rattle.cut.specs.Cuts.{part_of, cuts_of, cut_numbers, cut_all};
-ghost use Rattle.cut.specs.Calls.{is_finite_trim, is_trim_mode, trim_ranges, cut_measured, trim_lengths, shown_of, trimmed_of};
+ghost use Rattle.cut.specs.Calls.{is_finite_trim, is_trim_mode, trim_ranges, cut_measured, trim_lengths};
 ghost use Rattle.cut.specs.Answers.{mark_of};
 
-use command::Refusal;
-use length::Measured;
+use command::{Outcome, Refusal};
 use trim::{Ranges, TrimStyle};
-
-// f32::EPSILON, 2^-23.
-const EPSILON: f32 = 0.00000011920929;
 
 // What lies before, in and after a range.
 #[derive(Clone, Copy)]
@@ -26,83 +20,62 @@ pub struct Cuts {
     pub after: f32,
 }
 
-// The ranges of a trim, or why it is refused.
-#[derive(Clone, Copy)]
-pub enum Shown {
-    Refused(Refusal),
-    Visible(Ranges),
-}
-
-// The length of a path and the ranges of its trim, or a refusal.
-#[derive(Clone, Copy)]
-pub enum Trimmed {
-    Refused(Refusal),
-    Cut(f32, Ranges),
-}
-
+#[tactic(auto, unfolding(crate::specs::Calls::is_finite_trim))]
 fn is_finite_trim(trim: TrimStyle) -> bool
     ensures { result ≡ is_finite_trim trim }
 {
-    if float::is_finite(trim.start) {
-        if float::is_finite(trim.end) {
-            float::is_finite(trim.offset_degrees)
-        } else {
-            false
-        }
-    } else {
-        false
-    }
+    float::is_finite(trim.start)
+        && float::is_finite(trim.end)
+        && float::is_finite(trim.offset_degrees)
 }
 
+#[tactic(auto, unfolding(crate::specs::Calls::is_trim_mode))]
 fn is_trim_mode(mode: u8) -> bool
     ensures { result ≡ is_trim_mode mode }
 {
-    if mode == 1 { true } else { mode == 2 }
+    mode == 1 || mode == 2
 }
 
 // The visible ranges of a trim.
-pub fn trim_ranges(trim: TrimStyle) -> Shown
-    ensures { shown_of result ≡ trim_ranges trim }
+#[tactic(auto, unfolding(crate::specs::Calls::trim_ranges))]
+pub fn trim_ranges(trim: TrimStyle) -> Outcome<Ranges>
+    ensures { result ≡ trim_ranges trim }
 {
     if is_finite_trim(trim) {
-        Shown::Visible(trim::normalized_trim_segments(trim))
+        Ok(trim::normalized_trim_segments(trim))
     } else {
-        Shown::Refused(Refusal::OutOfRange)
+        Err(Refusal::OutOfRange)
     }
 }
 
-// A trim of a path that has been measured.
-fn trim_measured(trim: TrimStyle, measured: Measured) -> Trimmed
-    ensures { trimmed_of result ≡ and_then (measured_of measured) (cut_measured trim) }
+// A trim of a path of so much length: the length with the ranges.
+#[tactic(auto, unfolding(crate::specs::Calls::cut_measured))]
+fn trim_measured(trim: TrimStyle, total: f32) -> Outcome<(f32, Ranges)>
+    ensures { result ≡ cut_measured trim total }
 {
-    match measured {
-        Measured::Refused(refusal) => Trimmed::Refused(refusal),
-        Measured::Length(total) => {
-            if total <= EPSILON {
-                Trimmed::Refused(Refusal::TooShort)
-            } else {
-                Trimmed::Cut(total, trim::normalized_trim_segments(trim))
-            }
-        }
+    if total <= f32::EPSILON {
+        Err(Refusal::TooShort)
+    } else {
+        Ok((total, trim::normalized_trim_segments(trim)))
     }
 }
 
 // A trim of a lent command list.
-pub fn trim_lengths(trim: TrimStyle, codes: &[u8], numbers: &[f32]) -> Trimmed
-    ensures { trimmed_of result ≡ trim_lengths trim codes.now numbers.now }
+#[tactic(auto, unfolding(crate::specs::Calls::trim_lengths))]
+pub fn trim_lengths(trim: TrimStyle, codes: &[u8], numbers: &[f32]) -> Outcome<(f32, Ranges)>
+    ensures { result ≡ trim_lengths trim codes.now numbers.now }
 {
-    if is_finite_trim(trim) {
-        if is_trim_mode(trim.mode) {
-            trim_measured(trim, length::path_length(codes, numbers))
-        } else {
-            Trimmed::Refused(Refusal::Unlisted)
-        }
-    } else {
-        Trimmed::Refused(Refusal::OutOfRange)
+    if !is_finite_trim(trim) {
+        return Err(Refusal::OutOfRange);
     }
+    if !is_trim_mode(trim.mode) {
+        return Err(Refusal::Unlisted);
+    }
+    trim_measured(trim, length::path_length(codes, numbers)?)
 }
 
 // A part of a length, not below 0.
+#[tactic(auto, using(crate::proofs::Ways::cutting))]
 fn part_of(total: f32, part: f32) -> f32
     ensures { result ≡ part_of total part }
 {
@@ -110,6 +83,7 @@ fn part_of(total: f32, part: f32) -> f32
 }
 
 // The cut lengths of one range.
+#[tactic(auto, using(crate::proofs::Ways::cutting))]
 fn cuts_of(total: f32, start: f32, end: f32) -> Cuts
     ensures { result ≡ cuts_of total start end }
 {
@@ -121,6 +95,7 @@ fn cuts_of(total: f32, start: f32, end: f32) -> Cuts
 }
 
 // Puts the ends of ranges down.
+#[tactic(auto, using(crate::proofs::Ways::ends))]
 pub fn put_ranges(ranges: Ranges, buffer: &mut [f32])
     requires { 4 ≤ length buffer.old }
     ensures { buffer.new ≡ onto (range_ends ranges) buffer.old }
@@ -137,6 +112,7 @@ pub fn put_ranges(ranges: Ranges, buffer: &mut [f32])
 }
 
 // Puts the cut lengths of one range down from a place on.
+#[tactic(auto, using(crate::proofs::Ways::puts))]
 fn put_cut(cuts: Cuts, buffer: &mut [f32], at: usize)
     requires { at + 3 ≤ length buffer.old }
     ensures { buffer.new ≡ sets buffer.old at (cut_numbers cuts) }
@@ -146,6 +122,7 @@ fn put_cut(cuts: Cuts, buffer: &mut [f32], at: usize)
 }
 
 // Puts the cut lengths of ranges down.
+#[tactic(auto, using(crate::proofs::Ways::lengths))]
 pub fn put_cuts(total: f32, ranges: Ranges, buffer: &mut [f32])
     requires { 6 ≤ length buffer.old }
     ensures { buffer.new ≡ onto (cut_all total (range_ends ranges)) buffer.old }
@@ -161,12 +138,9 @@ pub fn put_cuts(total: f32, ranges: Ranges, buffer: &mut [f32])
 }
 
 // The mark of a whole path as a number.
+#[tactic(auto, using(crate::proofs::Ways::marks))]
 pub fn mark_of(ranges: Ranges) -> u32
     ensures { result ≡ mark_of ranges }
 {
-    if trim::is_full_trim_segments(ranges) {
-        1
-    } else {
-        0
-    }
+    u32::from(trim::is_full_trim_segments(ranges))
 }

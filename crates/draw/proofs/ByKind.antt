@@ -1,4 +1,5 @@
 -- What is so of every kind is so of a row's shape: a premise a kind, with how many numbers it has. Assumes nothing.
+use Rattle.std.specs.Prelude.{Ok, Err}
 use mathlib.Core.Path.{◌≡◌, refl}
 use mathlib.Core.Bool.{Bool, true, false, cond}
 use mathlib.Core.List.{List}
@@ -6,7 +7,7 @@ use Prim.Native.Nat.{◌*◌}
 use lib.Ieee.{Float}
 use Rattle.command.specs.declared.Refusal.{Refusal}
 use Rattle.command.specs.declared.Refusal.TheVariants.{Unsupported}
-use Rattle.command.specs.Outcomes.{Outcome, refused, accepted}
+use Rattle.command.specs.Outcomes.{Outcome}
 use Rattle.shape.specs.declared.Shape.{Shape}
 use Rattle.shape.specs.declared.Shape.TheVariants.{Path, Ellipse}
 use Rattle.item.specs.declared.ItemRow.{ItemRow}
@@ -21,10 +22,10 @@ either R false f g = g refl
 
 -- the shapes of one row over two lists of numbers
 pub kinds_relate : (R : Outcome Shape → Outcome Shape → Type 0) (row : ItemRow) (v v' : List Float)
-    → (is_path row ≡ true → entries_of row ≡ 6 * row.count → R (accepted (Path row.mark row.count)) (accepted (Path row.mark row.count)))
-    → (is_path row ≡ false → entries_of row ≡ 5 → R (accepted (rect_of v)) (accepted (rect_of v')))
-    → (is_path row ≡ false → entries_of row ≡ 4 → R (accepted Ellipse) (accepted Ellipse))
-    → ((r : Refusal) → R (refused r) (refused r))
+    → (is_path row ≡ true → entries_of row ≡ 6 * row.count → R (Ok (Path row.mark row.count)) (Ok (Path row.mark row.count)))
+    → (is_path row ≡ false → entries_of row ≡ 5 → R (Ok (rect_of v)) (Ok (rect_of v')))
+    → (is_path row ≡ false → entries_of row ≡ 4 → R (Ok Ellipse) (Ok Ellipse))
+    → ((r : Refusal) → R (Err r) (Err r))
     → R (item_shape row v) (item_shape row v')
 unfolding item_shape
 kinds_relate R row v v' path rectangle ellipse none =
@@ -35,9 +36,9 @@ kinds_relate R row v v' path rectangle ellipse none =
 
 -- the shape of one
 pub kinds_hold : (P : Outcome Shape → Type 0) (row : ItemRow) (v : List Float)
-    → (is_path row ≡ true → entries_of row ≡ 6 * row.count → P (accepted (Path row.mark row.count)))
-    → (is_path row ≡ false → entries_of row ≡ 5 → P (accepted (rect_of v)))
-    → (is_path row ≡ false → entries_of row ≡ 4 → P (accepted Ellipse))
-    → ((r : Refusal) → P (refused r))
+    → (is_path row ≡ true → entries_of row ≡ 6 * row.count → P (Ok (Path row.mark row.count)))
+    → (is_path row ≡ false → entries_of row ≡ 5 → P (Ok (rect_of v)))
+    → (is_path row ≡ false → entries_of row ≡ 4 → P (Ok Ellipse))
+    → ((r : Refusal) → P (Err r))
     → P (item_shape row v)
 kinds_hold P row v path rectangle ellipse none = kinds_relate (λ (o o' : Outcome Shape). P o) row v v path rectangle ellipse none

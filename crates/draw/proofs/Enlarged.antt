@@ -1,5 +1,6 @@
 -- A drawing of enlarged items is the enlarged drawing: the refusals are the same, and every number of the commands is multiplied. What is not read may
 -- differ freely. Assumes nothing.
+use Rattle.std.specs.Prelude.{Ok}
 use mathlib.Core.Path.{◌≡◌, sym, subst}
 use mathlib.Core.Bool.{true, false}
 use mathlib.Core.List.{List, [], ◌∷◌}
@@ -14,7 +15,7 @@ use Rattle.ieee.specs.Limit.{all_within, Bounded, AllBounded}
 use Rattle.ieee.specs.Grid.{On, Twin}
 use Rattle.ieee.proofs.Grid.{weaken, scale_on}
 use Rattle.ieee.proofs.Bounds.{on_bounded, all_bounded→within}
-use Rattle.command.specs.Outcomes.{Outcome, accepted, mapped, Check, checked}
+use Rattle.command.specs.Outcomes.{Outcome, mapped, Check, checked}
 use Rattle.command.specs.Enlarged.{Twins, DrawingTwin}
 use Rattle.command.proofs.Enlarged.{twins_weaken, drawing_refused, drawing_accepted, drawing_checked}
 use Rattle.path.specs.Path.{path_commands}
@@ -72,7 +73,7 @@ module _ (k : ℕ) (K : k ≤ 6) (closed count : ℕ) (v v' : List Float) (same 
   pub path_outcome : DrawingTwin k 35 16 (draw_path closed v count) (draw_path closed v' count)
   unfolding draw_path
   path_outcome =
-      subst (λ (cs : List Check). DrawingTwin k 35 16 (draw_path closed v count) (checked cs (accepted (path_commands closed v' count)))) (sym path_checks_lem)
+      subst (λ (cs : List Check). DrawingTwin k 35 16 (draw_path closed v count) (checked cs (Ok (path_commands closed v' count)))) (sym path_checks_lem)
       (drawing_checked (path_checks closed v count)
       (λ pass.
       let inside = (path_passed closed v count pass).inside in
@@ -91,17 +92,17 @@ shape_twins k K row v v' twins = kinds_relate Alike row v v' path rectangle elli
     first : (n : ℕ) → entries_of row ≡ n → (i : ℕ) → i < n → Twin k 10 13 (get_or v i nan) (get_or v' i nan)
     first n e i h = twins i (rw e h)
 
-    path : is_path row ≡ true → entries_of row ≡ 6 * row.count → Alike (accepted (Path row.mark row.count)) (accepted (Path row.mark row.count))
+    path : is_path row ≡ true → entries_of row ≡ 6 * row.count → Alike (Ok (Path row.mark row.count)) (Ok (Path row.mark row.count))
     path p e = drawing_accepted (list_twins k K row.mark row.count v v' (first (6 * row.count) e))
 
-    rectangle : is_path row ≡ false → entries_of row ≡ 5 → Alike (accepted (rect_of v)) (accepted (rect_of v'))
+    rectangle : is_path row ≡ false → entries_of row ≡ 5 → Alike (Ok (rect_of v)) (Ok (rect_of v'))
     rectangle p e =
         let at = first 5 e in
         drawing_accepted
         (rect_twins k K (get_or v 0 nan) (get_or v 1 nan) (get_or v 2 nan) (get_or v 3 nan) (get_or v 4 nan) (get_or v' 0 nan) (get_or v' 1 nan) (get_or v' 2 nan) (get_or v' 3 nan) (get_or v' 4 nan)
         (at 0 (lit< tt)) (at 1 (lit< tt)) (at 2 (lit< tt)) (at 3 (lit< tt)) (at 4 (lit< tt)))
 
-    ellipse : is_path row ≡ false → entries_of row ≡ 4 → Alike (accepted Ellipse) (accepted Ellipse)
+    ellipse : is_path row ≡ false → entries_of row ≡ 4 → Alike (Ok Ellipse) (Ok Ellipse)
     ellipse p e = let at = first 4 e in drawing_accepted (ellipse_twins K (at 0 (lit< tt)) (at 1 (lit< tt)) (at 2 (lit< tt)) (at 3 (lit< tt)))
 
 module _ (k : ℕ) (K : k ≤ 6) (row : ItemRow) (items items' : List Float) (same : length items' ≡ length items)

@@ -1,4 +1,5 @@
 -- What drawing a row reads of the item list: the numbers of that row and no others. Assumes nothing.
+use Rattle.std.specs.Prelude.{Ok}
 use mathlib.Core.Path.{◌≡◌, refl, sym, ap, ap₂, ◌∙◌}
 use mathlib.Core.Bool.{true, false}
 use mathlib.Core.List.{List, ◌∷◌}
@@ -9,7 +10,7 @@ use lib.Ieee.{Float, nan}
 use lib.ListN.{length, get_or, take, drop, length-drop, length-take}
 use lib.Seq.{get_or-take, get_or-drop, ext_get_or}
 use Rattle.command.specs.declared.PathCommand.{PathCommand}
-use Rattle.command.specs.Outcomes.{Outcome, accepted, mapped, Check, checked}
+use Rattle.command.specs.Outcomes.{Outcome, mapped, Check, checked}
 use Rattle.command.proofs.Outcomes.{checks_relate}
 use Rattle.path.specs.Path.{vertex_at, vertices_of, bezier_path, path_commands}
 use Rattle.shape.specs.declared.Shape.{Shape}
@@ -43,13 +44,13 @@ shape_read row v v' same = kinds_relate Same row v v' path rectangle ellipse (λ
     first : (n : ℕ) → entries_of row ≡ n → (i : ℕ) → i < n → get_or v' i nan ≡ get_or v i nan
     first n e i h = same i (rw e h)
 
-    path : is_path row ≡ true → entries_of row ≡ 6 * row.count → Same (accepted (Path row.mark row.count)) (accepted (Path row.mark row.count))
-    path p e = ap (λ (vs : List _). accepted (bezier_path (eqb row.mark 1) vs)) (vertices_read row.count v v' (first (6 * row.count) e))
+    path : is_path row ≡ true → entries_of row ≡ 6 * row.count → Same (Ok (Path row.mark row.count)) (Ok (Path row.mark row.count))
+    path p e = ap (λ (vs : List _). Ok (bezier_path (eqb row.mark 1) vs)) (vertices_read row.count v v' (first (6 * row.count) e))
 
-    rectangle : is_path row ≡ false → entries_of row ≡ 5 → Same (accepted (rect_of v)) (accepted (rect_of v'))
+    rectangle : is_path row ≡ false → entries_of row ≡ 5 → Same (Ok (rect_of v)) (Ok (rect_of v'))
     rectangle p e = let at = first 5 e in rw (at 0 (lit< tt), at 1 (lit< tt), at 2 (lit< tt), at 3 (lit< tt), at 4 (lit< tt))
 
-    ellipse : is_path row ≡ false → entries_of row ≡ 4 → Same (accepted Ellipse) (accepted Ellipse)
+    ellipse : is_path row ≡ false → entries_of row ≡ 4 → Same (Ok Ellipse) (Ok Ellipse)
     ellipse p e = let at = first 4 e in rw (at 0 (lit< tt), at 1 (lit< tt), at 2 (lit< tt), at 3 (lit< tt))
 
 take_read : (n : ℕ) (v v' : List Float) → length v' ≡ length v → ((i : ℕ) → i < n → i < length v → get_or v' i nan ≡ get_or v i nan) → take n v' ≡ take n v

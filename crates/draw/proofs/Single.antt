@@ -1,4 +1,5 @@
 -- Every number of a drawing is an f32 where those that are read are; a refusal has no numbers. Assumes nothing.
+use Rattle.std.specs.Prelude.{Ok, Err}
 use Prim.Native.Nat.{ℕ, ◌+◌, ◌*◌, ◌≤◌, ◌<◌}
 use native.Mathlib.Omega.{arith}
 use mathlib.Core.List.{List}
@@ -9,7 +10,7 @@ use lib.Seq.{get_or-drop}
 use Rattle.command.specs.declared.PathCommand.{PathCommand}
 use Rattle.command.specs.declared.Refusal.{Refusal}
 use Rattle.command.specs.Commands.{numbers_of}
-use Rattle.command.specs.Outcomes.{Outcome, refused, accepted, mapped, list_of}
+use Rattle.command.specs.Outcomes.{Outcome, mapped, list_of}
 use Rattle.command.proofs.Outcomes.{checks_hold}
 use Rattle.path.specs.Path.{path_commands}
 use Rattle.shape.specs.declared.Shape.{Shape}
@@ -28,13 +29,13 @@ use Rattle.path.proofs.Single.{commands_single}
 abbrev SingleOutcome : Outcome (List PathCommand) → Type 0
 SingleOutcome o = AllSingle (numbers_of (list_of o))
 
-none_single : (r : Refusal) → SingleOutcome (refused r)
+none_single : (r : Refusal) → SingleOutcome (Err r)
 none_single r = tt
 
 pub path_drawn_single : (closed count : ℕ) (v : List Float) → ((i : ℕ) → i < 6 * count → i < length v → Single (get_or v i nan)) → AllSingle (numbers_of (list_of (draw_path closed v count)))
 unfolding draw_path
 path_drawn_single closed count v at =
-    checks_hold SingleOutcome none_single (path_checks closed v count) (accepted (path_commands closed v count))
+    checks_hold SingleOutcome none_single (path_checks closed v count) (Ok (path_commands closed v count))
     (λ pass. let inside = (path_passed closed v count pass).inside in commands_single closed count v (λ i h. at i h (omega arith)))
 
 -- a shape whose numbers stand at the start of v, kind by kind

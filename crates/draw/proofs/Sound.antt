@@ -1,4 +1,5 @@
 -- What a drawing call answers is a sound command list: every number of it is within the limit of command lists. A refusal has no numbers. Assumes nothing.
+use Rattle.std.specs.Prelude.{Ok, Err}
 use mathlib.Core.Path.{◌≡◌, refl, subst}
 use mathlib.Core.Bool.{true, false}
 use mathlib.Core.List.{List, []}
@@ -12,7 +13,7 @@ use Rattle.ieee.proofs.Bounds.{all_within→bounded, all_bounded_at}
 use Rattle.command.specs.declared.PathCommand.{PathCommand}
 use Rattle.command.specs.declared.Refusal.{Refusal}
 use Rattle.command.specs.Commands.{numbers_of, command_limit}
-use Rattle.command.specs.Outcomes.{Outcome, refused, accepted, mapped, list_of}
+use Rattle.command.specs.Outcomes.{Outcome, mapped, list_of}
 use Rattle.command.proofs.Outcomes.{checks_hold}
 use Rattle.path.specs.Path.{path_commands}
 use Rattle.path.proofs.Accepted.{path_sound}
@@ -37,17 +38,17 @@ pub refusal_sound : all_within command_limit [] ≡ true
 unfolding all_within
 refusal_sound = refl
 
-none_sound : (r : Refusal) → SoundOutcome (refused r)
+none_sound : (r : Refusal) → SoundOutcome (Err r)
 none_sound r = refusal_sound
 
 -- ---- a vertex list
 pub draw_path_sound : (closed : ℕ) (v : List Float) (count : ℕ) → SoundOutcome (draw_path closed v count)
 unfolding draw_path
 draw_path_sound closed v count =
-    checks_hold SoundOutcome none_sound (path_checks closed v count) (accepted (path_commands closed v count))
+    checks_hold SoundOutcome none_sound (path_checks closed v count) (Ok (path_commands closed v count))
     (λ pass. let P = path_passed closed v count pass in path_sound closed count v P.numbers_within P.inside)
 
-pub drawn_path_sound : (closed : ℕ) (v : List Float) (count : ℕ) (cs : List PathCommand) → draw_path closed v count ≡ accepted cs → all_within command_limit (numbers_of cs) ≡ true
+pub drawn_path_sound : (closed : ℕ) (v : List Float) (count : ℕ) (cs : List PathCommand) → draw_path closed v count ≡ Ok cs → all_within command_limit (numbers_of cs) ≡ true
 drawn_path_sound closed v count cs e = subst SoundOutcome e (draw_path_sound closed v count)
 
 -- ---- an item row
@@ -66,15 +67,15 @@ shape_sound row v w h = kinds_hold SoundShape row v path rectangle ellipse (λ r
     first : (n : ℕ) → entries_of row ≡ n → (i : ℕ) → i < n → Bounded (2 ^ 20) (get_or v i nan)
     first n e i l = all_bounded_at (2 ^ 20) n v (all_within→bounded (2 ^ 20) coordinate_limit (take n v) limit_value (rw e at w)) (rw e at h) i l
 
-    path : is_path row ≡ true → entries_of row ≡ 6 * row.count → SoundShape (accepted (Path row.mark row.count))
+    path : is_path row ≡ true → entries_of row ≡ 6 * row.count → SoundShape (Ok (Path row.mark row.count))
     path p e = path_sound row.mark row.count v (rw e at w) (rw e at h)
 
-    rectangle : is_path row ≡ false → entries_of row ≡ 5 → SoundShape (accepted (rect_of v))
+    rectangle : is_path row ≡ false → entries_of row ≡ 5 → SoundShape (Ok (rect_of v))
     rectangle p e =
         let at = first 5 e in
         rect_sound (get_or v 0 nan) (get_or v 1 nan) (get_or v 2 nan) (get_or v 3 nan) (get_or v 4 nan) (at 0 (lit< tt)) (at 1 (lit< tt)) (at 2 (lit< tt)) (at 3 (lit< tt)) (at 4 (lit< tt))
 
-    ellipse : is_path row ≡ false → entries_of row ≡ 4 → SoundShape (accepted Ellipse)
+    ellipse : is_path row ≡ false → entries_of row ≡ 4 → SoundShape (Ok Ellipse)
     ellipse p e =
         let at = first 4 e in
         ellipse_sound (get_or v 0 nan) (get_or v 1 nan) (get_or v 2 nan) (get_or v 3 nan) (at 0 (lit< tt)) (at 1 (lit< tt)) (at 2 (lit< tt)) (at 3 (lit< tt))
@@ -89,5 +90,5 @@ pub draw_item_sound : (row : List ℕ) (items : List Float) → SoundOutcome (dr
 unfolding draw_item
 draw_item_sound row items = checks_hold SoundOutcome none_sound (item_checks row) (draw_source (item_row row 0) items) (λ pass. source_sound (item_row row 0) items)
 
-pub drawn_item_sound : (row : List ℕ) (items : List Float) (cs : List PathCommand) → draw_item row items ≡ accepted cs → all_within command_limit (numbers_of cs) ≡ true
+pub drawn_item_sound : (row : List ℕ) (items : List Float) (cs : List PathCommand) → draw_item row items ≡ Ok cs → all_within command_limit (numbers_of cs) ≡ true
 drawn_item_sound row items cs e = subst SoundOutcome e (draw_item_sound row items)

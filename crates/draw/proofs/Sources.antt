@@ -1,6 +1,7 @@
 -- What a source or a vertex list that is drawn has met: each check, so that its numbers are there and within the limit, and its commands are the
 -- shape's, which are few.
 -- Assumes nothing.
+use Rattle.std.specs.Prelude.{Ok, Err}
 use mathlib.Core.Path.{◌≡◌, refl, sym, ap}
 use mathlib.Core.Bool.{true, false, ◌&&◌}
 use mathlib.Core.List.{List}
@@ -13,7 +14,7 @@ use borrow.Author.Tests.{eqb-false, ltb-false, not-false}
 use Rattle.ieee.specs.Limit.{all_within}
 use Rattle.command.specs.declared.PathCommand.{PathCommand}
 use Rattle.command.specs.Commands.{numbers_of}
-use Rattle.command.specs.Outcomes.{Outcome, refused, accepted, mapped, list_of, AllPass}
+use Rattle.command.specs.Outcomes.{Outcome, mapped, list_of, AllPass}
 use Rattle.command.proofs.Outcomes.{refused_accepted, checks_passed}
 use Rattle.command.proofs.Lists.{numbers_few}
 use Rattle.path.specs.Path.{path_commands}
@@ -53,41 +54,41 @@ entries_dropped row items h = rw length-drop (omega arith)
 pub record DrawnSource (row : ItemRow) (items : List Float) (cs : List PathCommand) : Type 0 where
   pub passed : SourcePassed row items
   pub shape : Shape
-  pub made : item_shape row (drop row.place items) ≡ accepted shape
+  pub made : item_shape row (drop row.place items) ≡ Ok shape
   pub fits : Fit shape (drop row.place items)
   pub commands : cs ≡ shape_commands shape (drop row.place items)
-  pub drawn : shape_drawn row (drop row.place items) ≡ accepted cs
+  pub drawn : shape_drawn row (drop row.place items) ≡ Ok cs
 
-made_fits : (row : ItemRow) (v : List Float) (s : Shape) → has_no_vertices row ≡ false → row.count ≤ 1024 → entries_of row ≤ length v → item_shape row v ≡ accepted s → Fit s v
+made_fits : (row : ItemRow) (v : List Float) (s : Shape) → has_no_vertices row ≡ false → row.count ≤ 1024 → entries_of row ≤ length v → item_shape row v ≡ Ok s → Fit s v
 made_fits row v s some few inside = kinds_hold Fits row v path rectangle ellipse (λ r e. refused_accepted r s e)
   where
     Fits : Outcome Shape → Type 0
-    Fits o = o ≡ accepted s → Fit s v
+    Fits o = o ≡ Ok s → Fit s v
 
-    path : is_path row ≡ true → entries_of row ≡ 6 * row.count → Fits (accepted (Path row.mark row.count))
+    path : is_path row ≡ true → entries_of row ≡ 6 * row.count → Fits (Ok (Path row.mark row.count))
     path p n e =
         let is : Path row.mark row.count ≡ s = cc in
         let test : (is_path row && eqb row.count 0) ≡ false = some in
         let one : row.count ≡ 0 → ⊥ = eqb-false row.count 0 (rw p at test) in
         rw (← is) (record { some = omega arith; few = few; inside = omega arith })
 
-    rectangle : is_path row ≡ false → entries_of row ≡ 5 → Fits (accepted (rect_of v))
+    rectangle : is_path row ≡ false → entries_of row ≡ 5 → Fits (Ok (rect_of v))
     rectangle p n e = let is : rect_of v ≡ s = cc in rw (← is) (omega arith)
 
-    ellipse : is_path row ≡ false → entries_of row ≡ 4 → Fits (accepted Ellipse)
+    ellipse : is_path row ≡ false → entries_of row ≡ 4 → Fits (Ok Ellipse)
     ellipse p n e = let is : Ellipse ≡ s = cc in rw (← is) (omega arith)
 
-pub drawn_source : (row : ItemRow) (items : List Float) (cs : List PathCommand) → draw_source row items ≡ accepted cs → DrawnSource row items cs
+pub drawn_source : (row : ItemRow) (items : List Float) (cs : List PathCommand) → draw_source row items ≡ Ok cs → DrawnSource row items cs
 unfolding draw_source shape_drawn
 drawn_source row items cs e =
     let v = drop row.place items in
     let p = checks_passed (source_checks row items) (shape_drawn row v) cs e in
     go (source_passed row items p.0) p.1 (item_shape row v) refl p.1
   where
-    go : SourcePassed row items → shape_drawn row (drop row.place items) ≡ accepted cs → (o : Outcome Shape) → item_shape row (drop row.place items) ≡ o
-        → mapped (λ (s : Shape). shape_commands s (drop row.place items)) o ≡ accepted cs → DrawnSource row items cs
-    go P d (refused r) is e = refused_accepted r cs e
-    go P d (accepted s) is e = record {
+    go : SourcePassed row items → shape_drawn row (drop row.place items) ≡ Ok cs → (o : Outcome Shape) → item_shape row (drop row.place items) ≡ o
+        → mapped (λ (s : Shape). shape_commands s (drop row.place items)) o ≡ Ok cs → DrawnSource row items cs
+    go P d (Err r) is e = refused_accepted r cs e
+    go P d (Ok s) is e = record {
       passed = P;
       shape = s;
       made = is;
@@ -97,7 +98,7 @@ drawn_source row items cs e =
     }
 
 -- ---- how much that is
-module _ (row : ItemRow) (items : List Float) (cs : List PathCommand) (e : draw_source row items ≡ accepted cs) where
+module _ (row : ItemRow) (items : List Float) (cs : List PathCommand) (e : draw_source row items ≡ Ok cs) where
   pub source_few : length cs ≤ 1026
   source_few =
       let s = drawn_source row items cs e in
@@ -106,7 +107,7 @@ module _ (row : ItemRow) (items : List Float) (cs : List PathCommand) (e : draw_
   pub source_numbers_few : length (numbers_of cs) ≤ 6 * 1026
   source_numbers_few = omega (arith, numbers_few cs, source_few)
 
-pub drawn_item_few : (row : List ℕ) (items : List Float) (cs : List PathCommand) → draw_item row items ≡ accepted cs → length cs ≤ 1026
+pub drawn_item_few : (row : List ℕ) (items : List Float) (cs : List PathCommand) → draw_item row items ≡ Ok cs → length cs ≤ 1026
 unfolding draw_item
 drawn_item_few row items cs e = source_few (item_row row 0) items cs (checks_passed (item_checks row) (draw_source (item_row row 0) items) cs e).1
 
@@ -126,11 +127,11 @@ path_passed closed v count pass = record {
   numbers_within = search not-false;
 }
 
-module _ (closed : ℕ) (v : List Float) (count : ℕ) (cs : List PathCommand) (e : draw_path closed v count ≡ accepted cs) where
+module _ (closed : ℕ) (v : List Float) (count : ℕ) (cs : List PathCommand) (e : draw_path closed v count ≡ Ok cs) where
   pub drawn_path : (0 < count) × (count ≤ 1024) × (cs ≡ path_commands closed v count)
   unfolding draw_path
   drawn_path =
-      let p = checks_passed (path_checks closed v count) (accepted (path_commands closed v count)) cs e in
+      let p = checks_passed (path_checks closed v count) (Ok (path_commands closed v count)) cs e in
       let s = path_passed closed v count p.0 in
       (s.some, s.few, sym (ap list_of p.1))
 

@@ -1,5 +1,7 @@
 -- What each way out of a function of this crate owes, as the code meets it: a premise for each test and for each call's result.
 -- Assumes nothing.
+use Rattle.command.specs.declared.Size.{Size}
+use Rattle.std.specs.Prelude.{Ok, Err}
 use mathlib.Core.Path.{◌≡◌, sym, ap, ◌∙◌}
 use mathlib.Core.Bool.{Bool, true, false, not}
 use mathlib.Core.List.{List, [], ◌∷◌}
@@ -15,14 +17,10 @@ use Rattle.ieee.specs.Limit.{all_within}
 use Rattle.command.specs.declared.PathCommand.{PathCommand}
 use Rattle.command.specs.declared.Refusal.{Refusal}
 use Rattle.command.specs.declared.Refusal.TheVariants.{Empty, TooMany, OutOfRange, Unlisted, Unsupported, OutOfBounds}
-use Rattle.command.specs.declared.Counts.{Counts}
 use Rattle.command.specs.Refusals.{refusal_number}
-use Rattle.command.specs.Outcomes.{Outcome, accepted, ◌gives◌, checked, counts_number, first_count, second_count}
-use Rattle.command.specs.Buffers.{in_buffers, fitted, FilledBoth}
+use Rattle.command.specs.Outcomes.{Outcome, ◌gives◌, checked, number_of}
+use Rattle.command.specs.Buffers.{in_buffers, fitted, FilledBoth, codes_told, numbers_told}
 use Rattle.command.proofs.Buffers.{both_unfilled}
-use Rattle.command.specs.declared.Verdict.{Verdict}
-use Rattle.command.specs.declared.Verdict.TheVariants.{Refused, Passed}
-use Rattle.command.specs.Verdicts.{verdict_of}
 use Rattle.command.proofs.Verdicts.{behind_refused, behind_passed, all_pass}
 use Rattle.rect.specs.Rect.{corner_radius}
 use Rattle.shape.specs.declared.Shape.{Shape}
@@ -32,8 +30,6 @@ use Rattle.item.specs.declared.ItemRow.{ItemRow}
 use Rattle.item.specs.Rows.{item_row, is_listed, entries_of}
 use Rattle.path.specs.Path.{path_commands}
 use Rattle.item.proofs.Entries.{entries_path, entries_rect, entries_ellipse}
-use Rattle.draw.specs.declared.Checked.{Checked}
-use Rattle.draw.specs.declared.Checked.TheVariants.{Fault, Sound}
 use Rattle.draw.specs.Checks.{coordinate_limit, outcome_of, Ready}
 use Rattle.draw.specs.Paths.{path_checks, draw_path}
 use Rattle.draw.proofs.Sources.{SourcePassed, source_passed, path_passed}
@@ -41,113 +37,53 @@ use Rattle.draw.specs.Items.{is_drawable, is_held_back, has_no_vertices, item_sh
 
 -- ---- check_path and draw_path
 module _ (closed : ℕ) (v : List Float) (count : ℕ) where
-  pub path_empty : count ≡ 0 → verdict_of (Refused Empty) ≡ checked (path_checks closed v count) (accepted tt)
-  unfolding path_checks
-  path_empty a = rw (eq-eqb count 0 a)
-
-  module _ (a : count ≡ 0 → ⊥) where
-    pub path_many : 1024 < count → verdict_of (Refused TooMany) ≡ checked (path_checks closed v count) (accepted tt)
-    unfolding path_checks
-    path_many b = rw (ne_eqb count 0 a, lt-ltb 1024 count b)
-
-    module _ (b : count ≤ 1024) where
-      pub path_unlisted : 1 < closed → verdict_of (Refused Unlisted) ≡ checked (path_checks closed v count) (accepted tt)
-      unfolding path_checks
-      path_unlisted c = rw (ne_eqb count 0 a, le-ltb 1024 count b, lt-ltb 1 closed c)
-
-      module _ (c : closed ≤ 1) where
-        pub path_outside : length v < 6 * count → verdict_of (Refused OutOfBounds) ≡ checked (path_checks closed v count) (accepted tt)
-        unfolding path_checks
-        path_outside d = rw (ne_eqb count 0 a, le-ltb 1024 count b, le-ltb 1 closed c, lt-ltb (length v) (6 * count) d)
-
-        module _ (d : 6 * count ≤ length v) (t : Bool) (is : t ≡ all_within coordinate_limit (take (6 * count) v)) where
-          -- the last check, with the others passed
-          last_path : checked ((not t gives OutOfRange) ∷ []) (verdict_of Passed) ≡ checked (path_checks closed v count) (verdict_of Passed)
-          unfolding path_checks
-          last_path = rw (ne_eqb count 0 a, le-ltb 1024 count b, le-ltb 1 closed c, le-ltb (length v) (6 * count) d, ← is)
-
-          pub path_passes : t ≡ true → verdict_of Passed ≡ checked (path_checks closed v count) (accepted tt)
-          path_passes e = rw e at last_path
-
-          pub path_beyond : t ≡ false → verdict_of (Refused OutOfRange) ≡ checked (path_checks closed v count) (accepted tt)
-          path_beyond e = rw e at last_path
-
-  module _ (verdict : Verdict) (verdict_is : verdict_of verdict ≡ checked (path_checks closed v count) (accepted tt)) where
-    pub path_ready : verdict ≡ Passed → Fit (Path closed count) v
+  module _ (verdict : Outcome (Unit {0})) (verdict_is : verdict ≡ checked (path_checks closed v count) (Ok tt)) where
+    pub path_ready : verdict ≡ Ok tt → Fit (Path closed count) v
     path_ready e =
         let P = path_passed closed v count (all_pass (path_checks closed v count) verdict verdict_is e) in
         record { some = P.some; few = P.few; inside = P.inside }
 
-    pub path_refused : (codes : List ℕ) (numbers : List Float) (r : Refusal) → verdict ≡ Refused r
+    pub path_refused : (codes : List ℕ) (numbers : List Float) (r : Refusal) → verdict ≡ Err r
         → FilledBoth (fitted (in_buffers (length codes) (length numbers)) (draw_path closed v count)) (refusal_number r) 0 0 codes codes numbers numbers
     unfolding draw_path fitted
     path_refused codes numbers r e =
-        rw (behind_refused (path_checks closed v count) verdict verdict_is r e (accepted (path_commands closed v count))) (both_unfilled r codes numbers)
+        rw (behind_refused (path_checks closed v count) verdict verdict_is r e (Ok (path_commands closed v count))) (both_unfilled r codes numbers)
 
-    pub path_drawn_whole : (codes codes' : List ℕ) (numbers numbers' : List Float) (r : Counts) → verdict ≡ Passed
-        → FilledBoth (fitted (in_buffers (length codes) (length numbers)) (accepted (shape_commands (Path closed count) v)))
-        (counts_number r) (first_count r) (second_count r) codes codes' numbers numbers'
-        → FilledBoth (fitted (in_buffers (length codes) (length numbers)) (draw_path closed v count)) (counts_number r) (first_count r) (second_count r)
+    pub path_drawn_whole : (codes codes' : List ℕ) (numbers numbers' : List Float) (r : Outcome Size) → verdict ≡ Ok tt
+        → FilledBoth (fitted (in_buffers (length codes) (length numbers)) (Ok (shape_commands (Path closed count) v)))
+        (number_of r) (codes_told r) (numbers_told r) codes codes' numbers numbers'
+        → FilledBoth (fitted (in_buffers (length codes) (length numbers)) (draw_path closed v count)) (number_of r) (codes_told r) (numbers_told r)
         codes codes' numbers numbers'
     unfolding draw_path shape_commands
     path_drawn_whole codes codes' numbers numbers' r e f =
-        rw (behind_passed (path_checks closed v count) verdict verdict_is e (accepted (path_commands closed v count))) f
+        rw (behind_passed (path_checks closed v count) verdict verdict_is e (Ok (path_commands closed v count))) f
 
 pub taken : (v : List Float) (n : ℕ) → n ≤ length v → n ≡ length (take n v)
 taken v n h = sym (length-take-le n v h)
 
-pub ruleset paths = (taken, path_empty, path_many, path_unlisted, path_outside, path_passes, path_beyond)
-
 pub ruleset path_drawings = (path_ready, path_refused, path_drawn_whole)
 
--- ---- is_drawable
-module _ (row : ItemRow) (t : Bool) (is : t ≡ is_listed row) where
-  pub listed_kind : t ≡ true → leb row.kind 4 ≡ is_drawable row
-  unfolding is_drawable
-  listed_kind h = rw (← is, h)
-
-  pub not_listed : t ≡ false → false ≡ is_drawable row
-  unfolding is_drawable
-  not_listed h = rw (← is, h)
-
-pub ruleset rows = (listed_kind, not_listed)
-
--- ---- has_no_vertices, is_held_back and shape_of
+-- ---- shape_of
 module _ (row : ItemRow) where
-  pub no_vertices_path : row.kind ≡ 1 → eqb row.count 0 ≡ has_no_vertices row
-  no_vertices_path h = rw (eq-eqb row.kind 1 h)
-
-  pub no_vertices_other : (row.kind ≡ 1 → ⊥) → false ≡ has_no_vertices row
-  no_vertices_other h = rw (ne_eqb row.kind 1 h)
-
-  pub path_drawn : row.kind ≡ 1 → false ≡ is_held_back row
-  path_drawn h = rw (eq-eqb row.kind 1 h)
-
-  pub rect_drawn : row.kind ≡ 2 → false ≡ is_held_back row
-  rect_drawn h = rw h
-
-  pub ellipse_drawn : row.kind ≡ 3 → false ≡ is_held_back row
-  ellipse_drawn h = rw h
-
-  pub others_held : (row.kind ≡ 1 → ⊥) → (row.kind ≡ 2 → ⊥) → (row.kind ≡ 3 → ⊥) → true ≡ is_held_back row
-  others_held a b c = rw (ne_eqb row.kind 1 a, ne_eqb row.kind 2 b, ne_eqb row.kind 3 c)
-
   module _ (items : List Float) (some : has_no_vertices row ≡ false) (few : row.count ≤ 1024) (inside : row.place + entries_of row ≤ length items) where
     abbrev from : List Float
     from = drop row.place items
 
     module _ (h : row.kind ≡ 1) where
-      pub shape_path : outcome_of (Sound row.place (Path row.mark row.count)) items ≡ shape_drawn row from
+      pub shape_path : outcome_of (Ok (row.place, (Path row.mark row.count))) items ≡ shape_drawn row from
       unfolding shape_drawn item_shape outcome_of
       shape_path = rw (eq-eqb row.kind 1 h)
 
-      pub path_fits : Ready (Sound row.place (Path row.mark row.count)) items
+      pub path_fits : Ready (Ok (row.place, (Path row.mark row.count))) items
       path_fits =
           let is = entries_path row (eq-eqb row.kind 1 h) in
-          let one : row.count ≡ 0 → ⊥ = eqb-false row.count 0 (no_vertices_path h ∙ some) in
+          let one : row.count ≡ 0 → ⊥ = eqb-false row.count 0 (rw (eq-eqb row.kind 1 h) at some) in
           (omega arith, record { some = omega arith; few = few; inside = rw length-drop (omega arith) })
 
-    module _ (a : row.kind ≡ 1 → ⊥) (h : row.kind ≡ 2) where
+    module _ (h : row.kind ≡ 2) where
+      a : row.kind ≡ 1 → ⊥
+      a z = omega arith
+
       five : entries_of row ≡ 5
       five = entries_rect row (ne_eqb row.kind 1 a) (eq-eqb row.kind 2 h)
 
@@ -156,36 +92,30 @@ module _ (row : ItemRow) where
 
       pub shape_rect : (radius : Float)
           → radius ≡ corner_radius (get_or items (row.place + 2) nan) (get_or items (row.place + 3) nan) (get_or items (row.place + 4) nan)
-          → outcome_of (Sound row.place (Rect radius)) items ≡ shape_drawn row from
+          → outcome_of (Ok (row.place, (Rect radius))) items ≡ shape_drawn row from
       unfolding shape_drawn item_shape outcome_of
       shape_rect radius e =
           rw (ne_eqb row.kind 1 a, eq-eqb row.kind 2 h, e, get_or-drop row.place items 2 nan, get_or-drop row.place items 3 nan, get_or-drop row.place items 4 nan)
 
-      pub rect_fits : (radius : Float) → Ready (Sound row.place (Rect radius)) items
+      pub rect_fits : (radius : Float) → Ready (Ok (row.place, (Rect radius))) items
       rect_fits radius = (omega arith, rw length-drop (omega (arith, five)))
 
     module _ (a : row.kind ≡ 1 → ⊥) (b : row.kind ≡ 2 → ⊥) where
       module _ (h : row.kind ≡ 3) where
-        pub shape_ellipse : outcome_of (Sound row.place Ellipse) items ≡ shape_drawn row from
+        pub shape_ellipse : outcome_of (Ok (row.place, Ellipse)) items ≡ shape_drawn row from
         unfolding shape_drawn item_shape outcome_of
         shape_ellipse = rw (ne_eqb row.kind 1 a, ne_eqb row.kind 2 b, eq-eqb row.kind 3 h)
 
-        pub ellipse_fits : Ready (Sound row.place Ellipse) items
+        pub ellipse_fits : Ready (Ok (row.place, Ellipse)) items
         ellipse_fits =
             let four = entries_ellipse row (ne_eqb row.kind 1 a) (ne_eqb row.kind 2 b) (eq-eqb row.kind 3 h) in
             (omega arith, rw length-drop (omega arith))
 
-      pub shape_none : (row.kind ≡ 3 → ⊥) → outcome_of (Fault Unsupported) items ≡ shape_drawn row from
+      pub shape_none : (row.kind ≡ 3 → ⊥) → outcome_of (Err Unsupported) items ≡ shape_drawn row from
       unfolding shape_drawn item_shape outcome_of
       shape_none c = rw (ne_eqb row.kind 1 a, ne_eqb row.kind 2 b, ne_eqb row.kind 3 c)
 
 pub ruleset kinds = (
-  no_vertices_path,
-  no_vertices_other,
-  path_drawn,
-  rect_drawn,
-  ellipse_drawn,
-  others_held,
   shape_path,
   path_fits,
   five_inside,
@@ -203,34 +133,34 @@ module _ (row : ItemRow) (items : List Float) where
 
   -- what the checks come to
   abbrev verdict : Outcome (Unit {0})
-  verdict = checked (source_checks row items) (verdict_of Passed)
+  verdict = checked (source_checks row items) (Ok tt)
 
   module _ (held : Bool) (held_is : held ≡ is_held_back row) where
-    pub source_held : held ≡ true → verdict_of (Refused Unsupported) ≡ verdict
+    pub source_held : held ≡ true → Err Unsupported ≡ verdict
     unfolding source_checks
     source_held a = rw (← held_is, a)
 
     module _ (a : held ≡ false) (empty : Bool) (empty_is : empty ≡ has_no_vertices row) where
-      pub source_empty : empty ≡ true → verdict_of (Refused Empty) ≡ verdict
+      pub source_empty : empty ≡ true → Err Empty ≡ verdict
       unfolding source_checks
       source_empty b = rw (← held_is, a, ← empty_is, b)
 
       module _ (b : empty ≡ false) where
-        pub source_many : 1024 < row.count → verdict_of (Refused TooMany) ≡ verdict
+        pub source_many : 1024 < row.count → Err TooMany ≡ verdict
         unfolding source_checks
         source_many c = rw (← held_is, a, ← empty_is, b, lt-ltb 1024 row.count c)
 
         module _ (c : row.count ≤ 1024) (n : ℕ) (n_is : n ≡ entries_of row) where
-          source_outside : length items < row.place + entries_of row → verdict_of (Refused OutOfBounds) ≡ verdict
+          source_outside : length items < row.place + entries_of row → Err OutOfBounds ≡ verdict
           unfolding source_checks
           source_outside d =
               rw (← held_is, a, ← empty_is, b, le-ltb 1024 row.count c, lt-ltb (length items) (row.place + entries_of row) d)
 
-          pub source_short : length items < n → verdict_of (Refused OutOfBounds) ≡ verdict
+          pub source_short : length items < n → Err OutOfBounds ≡ verdict
           source_short d = source_outside (omega arith)
 
           module _ (d : n ≤ length items) where
-            pub source_past : length items - n < row.place → verdict_of (Refused OutOfBounds) ≡ verdict
+            pub source_past : length items - n < row.place → Err OutOfBounds ≡ verdict
             source_past e = source_outside (omega arith)
 
             module _ (e : row.place ≤ length items - n) where
@@ -250,7 +180,7 @@ module _ (row : ItemRow) (items : List Float) where
                 judged = t_is ∙ ap (all_within coordinate_limit) same
 
                 -- the last check, with the others passed
-                last : checked ((not t gives OutOfRange) ∷ []) (verdict_of Passed) ≡ verdict
+                last : checked ((not t gives OutOfRange) ∷ []) (Ok tt) ≡ verdict
                 unfolding source_checks
                 last =
                     rw (
@@ -263,10 +193,10 @@ module _ (row : ItemRow) (items : List Float) where
                       ← judged,
                     )
 
-                pub source_beyond : t ≡ false → verdict_of (Refused OutOfRange) ≡ verdict
+                pub source_beyond : t ≡ false → Err OutOfRange ≡ verdict
                 source_beyond f = rw f at last
 
-                pub source_passes : t ≡ true → verdict_of Passed ≡ verdict
+                pub source_passes : t ≡ true → Ok tt ≡ verdict
                 source_passes f = rw f at last
 
 pub ruleset sources = (
@@ -281,16 +211,16 @@ pub ruleset sources = (
 )
 
 -- ---- a row behind its checks: what shape_of asks, and what draw_source owes
-module _ (row : ItemRow) (items : List Float) (u : Verdict) (u_is : verdict_of u ≡ checked (source_checks row items) (accepted tt)) where
+module _ (row : ItemRow) (items : List Float) (u : Outcome (Unit {0})) (u_is : u ≡ checked (source_checks row items) (Ok tt)) where
   abbrev rest : List Float
   rest = drop row.place items
 
-  pub source_refused : (codes : List ℕ) (numbers : List Float) (r : Refusal) → u ≡ Refused r
+  pub source_refused : (codes : List ℕ) (numbers : List Float) (r : Refusal) → u ≡ Err r
       → FilledBoth (fitted (in_buffers (length codes) (length numbers)) (draw_source row items)) (refusal_number r) 0 0 codes codes numbers numbers
   unfolding draw_source fitted
   source_refused codes numbers r e = rw (behind_refused (source_checks row items) u u_is r e (shape_drawn row rest)) (both_unfilled r codes numbers)
 
-  module _ (e : u ≡ Passed) where
+  module _ (e : u ≡ Ok tt) where
     passed : SourcePassed row items
     passed = source_passed row items (all_pass (source_checks row items) u u_is e)
 
@@ -303,44 +233,24 @@ module _ (row : ItemRow) (items : List Float) (u : Verdict) (u_is : verdict_of u
     pub numbers_inside : row.place + entries_of row ≤ length items
     numbers_inside = passed.inside
 
-    pub source_made : (k : Checked) → outcome_of k items ≡ shape_drawn row rest → outcome_of k items ≡ draw_source row items
+    pub source_made : (k : Outcome (ℕ × Shape)) → outcome_of k items ≡ shape_drawn row rest → outcome_of k items ≡ draw_source row items
     unfolding draw_source
     source_made k is = is ∙ sym (behind_passed (source_checks row items) u u_is e (shape_drawn row rest))
 
 pub ruleset behind_checks = (some_vertices, few_vertices, numbers_inside, source_made)
 
--- ---- check_row
-module _ (row : List ℕ) where
-  pub row_short : length row < 6 → verdict_of (Refused OutOfBounds) ≡ checked (item_checks row) (accepted tt)
-  unfolding item_checks
-  row_short a = rw (lt-ltb (length row) 6 a)
-
-  module _ (a : 6 ≤ length row) (r : ItemRow) (r_is : r ≡ item_row row 0) (t : Bool) (t_is : t ≡ is_drawable r) where
-    row_judged : is_drawable (item_row row 0) ≡ t
-    row_judged = ap is_drawable (sym r_is) ∙ sym t_is
-
-    pub row_unlisted : t ≡ false → verdict_of (Refused Unlisted) ≡ checked (item_checks row) (accepted tt)
-    unfolding item_checks
-    row_unlisted b = rw (le-ltb (length row) 6 a, row_judged ∙ b)
-
-    pub row_passes : t ≡ true → verdict_of Passed ≡ checked (item_checks row) (accepted tt)
-    unfolding item_checks
-    row_passes b = rw (le-ltb (length row) 6 a, row_judged ∙ b)
-
-pub ruleset row_checks_lem = (row_short, row_unlisted, row_passes)
-
 -- ---- draw_checked
 pub tail : (l : List Float) (a : ℕ) → take (length l - a) (drop a l) ≡ drop a l
 tail l a = take_all (length l - a) (drop a l) (rw length-drop (le_refl (length l - a)))
 
-module _ (k : Checked) (v : List Float) where
-  pub fault_refused : (codes : List ℕ) (numbers : List Float) (r : Refusal) → k ≡ Fault r
+module _ (k : Outcome (ℕ × Shape)) (v : List Float) where
+  pub fault_refused : (codes : List ℕ) (numbers : List Float) (r : Refusal) → k ≡ Err r
       → FilledBoth (fitted (in_buffers (length codes) (length numbers)) (outcome_of k v)) (refusal_number r) 0 0 codes codes numbers numbers
   unfolding outcome_of fitted
   fault_refused codes numbers r is =
       rw is (both_unfilled r codes numbers)
 
-  module _ (place : ℕ) (s : Shape) (is : k ≡ Sound place s) where
+  module _ (place : ℕ) (s : Shape) (is : k ≡ Ok (place, s)) where
     ready_sound : Ready k v → (place ≤ length v) × Fit s (drop place v)
     ready_sound ready = rw is at ready
 
@@ -350,29 +260,29 @@ module _ (k : Checked) (v : List Float) where
     pub sound_fit : Ready k v → Fit s (take (length v - place) (drop place v))
     sound_fit ready = rw (tail v place) (ready_sound ready).1
 
-    pub sound_drawn : (codes codes' : List ℕ) (numbers numbers' : List Float) (r : Counts)
-        → FilledBoth (fitted (in_buffers (length codes) (length numbers)) (accepted (shape_commands s (take (length v - place) (drop place v))))) (counts_number r) (first_count r) (second_count r)
+    pub sound_drawn : (codes codes' : List ℕ) (numbers numbers' : List Float) (r : Outcome Size)
+        → FilledBoth (fitted (in_buffers (length codes) (length numbers)) (Ok (shape_commands s (take (length v - place) (drop place v))))) (number_of r) (codes_told r) (numbers_told r)
         codes codes' numbers numbers'
-        → FilledBoth (fitted (in_buffers (length codes) (length numbers)) (outcome_of k v)) (counts_number r) (first_count r) (second_count r) codes codes' numbers numbers'
+        → FilledBoth (fitted (in_buffers (length codes) (length numbers)) (outcome_of k v)) (number_of r) (codes_told r) (numbers_told r) codes codes' numbers numbers'
     unfolding outcome_of
     sound_drawn codes codes' numbers numbers' r f = rw is (rw (tail v place) at f)
 
 -- ---- draw_source and draw_item
-pub as_checked : (k : Checked) (v : List Float) (o : Outcome (List PathCommand)) (codes codes' : List ℕ) (numbers numbers' : List Float) (r : Counts)
+pub as_checked : (k : Outcome (ℕ × Shape)) (v : List Float) (o : Outcome (List PathCommand)) (codes codes' : List ℕ) (numbers numbers' : List Float) (r : Outcome Size)
     → outcome_of k v ≡ o
-    → FilledBoth (fitted (in_buffers (length codes) (length numbers)) (outcome_of k v)) (counts_number r) (first_count r) (second_count r) codes codes' numbers numbers'
-    → FilledBoth (fitted (in_buffers (length codes) (length numbers)) o) (counts_number r) (first_count r) (second_count r) codes codes' numbers numbers'
+    → FilledBoth (fitted (in_buffers (length codes) (length numbers)) (outcome_of k v)) (number_of r) (codes_told r) (numbers_told r) codes codes' numbers numbers'
+    → FilledBoth (fitted (in_buffers (length codes) (length numbers)) o) (number_of r) (codes_told r) (numbers_told r) codes codes' numbers numbers'
 as_checked k v o codes codes' numbers numbers' r e f = rw (← e) f
 
 pub ruleset source_drawings = (source_refused, as_checked, behind_checks)
 
-module _ (row : List ℕ) (items : List Float) (u : Verdict) (u_is : verdict_of u ≡ checked (item_checks row) (accepted tt)) where
-  pub item_refused : (codes : List ℕ) (numbers : List Float) (r : Refusal) → u ≡ Refused r
+module _ (row : List ℕ) (items : List Float) (u : Outcome (Unit {0})) (u_is : u ≡ checked (item_checks row) (Ok tt)) where
+  pub item_refused : (codes : List ℕ) (numbers : List Float) (r : Refusal) → u ≡ Err r
       → FilledBoth (fitted (in_buffers (length codes) (length numbers)) (draw_item row items)) (refusal_number r) 0 0 codes codes numbers numbers
   unfolding draw_item fitted
   item_refused codes numbers r e = rw (behind_refused (item_checks row) u u_is r e (draw_source (item_row row 0) items)) (both_unfilled r codes numbers)
 
-  module _ (e : u ≡ Passed) where
+  module _ (e : u ≡ Ok tt) where
     pub row_whole : 6 ≤ length row
     unfolding item_checks
     row_whole = let pass = all_pass (item_checks row) u u_is e in omega (arith, ltb-false, pass)
@@ -381,10 +291,10 @@ module _ (row : List ℕ) (items : List Float) (u : Verdict) (u_is : verdict_of 
     unfolding draw_item
     item_drawn r is = ap (λ (x : ItemRow). draw_source x items) is ∙ sym (behind_passed (item_checks row) u u_is e (draw_source (item_row row 0) items))
 
-    pub item_filled : (r : ItemRow) (codes codes' : List ℕ) (numbers numbers' : List Float) (n : Counts) → r ≡ item_row row 0
-        → FilledBoth (fitted (in_buffers (length codes) (length numbers)) (draw_source r items)) (counts_number n) (first_count n) (second_count n)
+    pub item_filled : (r : ItemRow) (codes codes' : List ℕ) (numbers numbers' : List Float) (n : Outcome Size) → r ≡ item_row row 0
+        → FilledBoth (fitted (in_buffers (length codes) (length numbers)) (draw_source r items)) (number_of n) (codes_told n) (numbers_told n)
         codes codes' numbers numbers'
-        → FilledBoth (fitted (in_buffers (length codes) (length numbers)) (draw_item row items)) (counts_number n) (first_count n) (second_count n)
+        → FilledBoth (fitted (in_buffers (length codes) (length numbers)) (draw_item row items)) (number_of n) (codes_told n) (numbers_told n)
         codes codes' numbers numbers'
     item_filled r codes codes' numbers numbers' n is f = rw (← (item_drawn r is)) f
 

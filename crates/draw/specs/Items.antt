@@ -1,10 +1,10 @@
 -- What drawing one item row answers, whatever it is given. Definitions only.
-use Rattle.std.specs.Prelude.{ℕ, ◌+◌, Bool, cond, not, ◌&&◌, ◌||◌, List, [], ◌∷◌, eqb, ltb, leb, Float, length, get_or, take, drop}
+use Rattle.std.specs.Prelude.{ℕ, ◌+◌, Bool, cond, not, ◌&&◌, ◌||◌, List, [], ◌∷◌, eqb, ltb, leb, Float, length, get_or, take, drop, Ok, Err}
 use Rattle.std.specs.Float.{nan}
 use Rattle.ieee.specs.Limit.{all_within}
 use Rattle.command.specs.declared.PathCommand.{PathCommand}
 use Rattle.command.specs.declared.Refusal.TheVariants.{Empty, TooMany, OutOfRange, Unlisted, Unsupported, OutOfBounds}
-use Rattle.command.specs.Outcomes.{Outcome, refused, accepted, mapped, Check, ◌gives◌, checked}
+use Rattle.command.specs.Outcomes.{Outcome, mapped, Check, ◌gives◌, checked}
 use Rattle.rect.specs.Rect.{corner_radius}
 use Rattle.shape.specs.declared.Shape.{Shape}
 use Rattle.shape.specs.declared.Shape.TheVariants.{Path, Rect, Ellipse}
@@ -36,10 +36,10 @@ rect_of v = Rect (corner_radius (get_or v 2 nan) (get_or v 3 nan) (get_or v 4 na
 -- a shape are held back before.
 unfoldable pub item_shape : ItemRow → List Float → Outcome Shape
 item_shape row v =
-    cond (is_path row) (accepted (Path row.mark row.count))
-    (cond (is_rect row) (accepted (rect_of v))
-    (cond (is_ellipse row) (accepted Ellipse)
-    (refused Unsupported)))
+    cond (is_path row) (Ok (Path row.mark row.count))
+    (cond (is_rect row) (Ok (rect_of v))
+    (cond (is_ellipse row) (Ok Ellipse)
+    (Err Unsupported)))
 
 -- ---- the call
 

@@ -1,9 +1,9 @@
 -- What drawing a vertex list answers, whatever it is given. Definitions only.
-use Rattle.std.specs.Prelude.{ℕ, ◌*◌, not, List, [], ◌∷◌, eqb, ltb, Float, length, take}
+use Rattle.std.specs.Prelude.{ℕ, ◌*◌, not, List, [], ◌∷◌, eqb, ltb, Float, length, take, Ok}
 use Rattle.ieee.specs.Limit.{all_within}
 use Rattle.command.specs.declared.PathCommand.{PathCommand}
 use Rattle.command.specs.declared.Refusal.TheVariants.{Empty, TooMany, OutOfRange, Unlisted, OutOfBounds}
-use Rattle.command.specs.Outcomes.{Outcome, accepted, Check, ◌gives◌, checked}
+use Rattle.command.specs.Outcomes.{Outcome, Check, ◌gives◌, checked}
 use Rattle.path.specs.Path.{path_commands}
 use Rattle.draw.specs.Checks.{coordinate_limit}
 
@@ -21,4 +21,4 @@ path_checks closed v count =
 -- then the commands
 unfoldable pub draw_path : ℕ → List Float → ℕ → Outcome (List PathCommand)
 unfolding path_checks path_commands
-draw_path closed v count = checked (path_checks closed v count) (accepted (path_commands closed v count))
+draw_path closed v count = checked (path_checks closed v count) (Ok (path_commands closed v count))

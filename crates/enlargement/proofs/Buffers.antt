@@ -1,4 +1,5 @@
 -- Calls that answer two plates alike fill the caller's buffers alike. Assumes nothing.
+use Rattle.std.specs.Prelude.{Ok, Err}
 use Prim.Native.Nat.{ℕ}
 use mathlib.Core.Path.{◌≡◌, refl, ap, ◌∙◌}
 use mathlib.Core.Bool.{Bool, true, false, cond, ◌&&◌}
@@ -10,7 +11,7 @@ use Rattle.ieee.specs.Grid.{scale}
 use Rattle.command.specs.declared.PathCommand.{PathCommand}
 use Rattle.command.specs.declared.Refusal.TheVariants.{BufferTooSmall}
 use Rattle.command.specs.Commands.{numbers_of}
-use Rattle.command.specs.Outcomes.{Outcome, refused, accepted, mapped}
+use Rattle.command.specs.Outcomes.{Outcome, mapped}
 use Rattle.command.specs.Buffers.{fitted, in_buffer, in_buffers}
 use Rattle.command.specs.Enlarged.{enlarged}
 use Rattle.command.proofs.Enlarged.{enlarged_codes, enlarged_numbers, enlarged_size}
@@ -26,19 +27,19 @@ module _ {A S : Type 0} (fits : S → A → Bool) (Same : Outcome A → Outcome 
   -- the check of the buffers and enlarging do not see each other
   fitted_mapped : (s : S) (o : Outcome A) → fitted (fits s) (mapped g o) ≡ mapped g (fitted (fits s) o)
   unfolding fitted
-  fitted_mapped s (refused r) = refl
-  fitted_mapped s (accepted a) = ap (λ (t : Bool). cond t (accepted (g a)) (refused BufferTooSmall)) (alike s a) ∙ go (fits s a)
+  fitted_mapped s (Err r) = refl
+  fitted_mapped s (Ok a) = ap (λ (t : Bool). cond t (Ok (g a)) (Err BufferTooSmall)) (alike s a) ∙ go (fits s a)
     where
-      go : (t : Bool) → cond t (accepted (g a)) (refused BufferTooSmall) ≡ mapped g (cond t (accepted a) (refused BufferTooSmall))
+      go : (t : Bool) → cond t (Ok (g a)) (Err BufferTooSmall) ≡ mapped g (cond t (Ok a) (Err BufferTooSmall))
       go true = refl
       go false = refl
 
   held : (s : S) (o : Outcome A) → Holds (fits s) o → fitted (fits s) o ≡ o
   unfolding fitted
-  held s (refused r) h = refl
-  held s (accepted a) h = go (fits s a) h
+  held s (Err r) h = refl
+  held s (Ok a) h = go (fits s a) h
     where
-      go : (t : Bool) → (cond {A = Outcome A} t (accepted a) (refused BufferTooSmall) ≡ refused BufferTooSmall → ⊥) → cond t (accepted a) (refused BufferTooSmall) ≡ accepted a
+      go : (t : Bool) → (cond {A = Outcome A} t (Ok a) (Err BufferTooSmall) ≡ Err BufferTooSmall → ⊥) → cond t (Ok a) (Err BufferTooSmall) ≡ Ok a
       go true h = refl
       go false h = absurd (h refl)
 
@@ -50,11 +51,11 @@ module _ {A S : Type 0} (fits : S → A → Bool) (Same : Outcome A → Outcome 
 
 -- ---- two buffers
 same_lines : (k : ℕ) (o : Outcome (List PathCommand)) → SameLines k o (mapped (map (enlarged k)) o)
-same_lines k (refused r) = record {
+same_lines k (Err r) = record {
   codes_same = record { number_same = refl; count_same = refl; list_is = refl };
   numbers_multiplied = record { number_same = refl; count_same = refl; list_is = refl };
 }
-same_lines k (accepted cs) = record {
+same_lines k (Ok cs) = record {
   codes_same = record { number_same = refl; count_same = ap length (enlarged_codes k cs); list_is = enlarged_codes k cs };
   numbers_multiplied = record { number_same = refl; count_same = ap length (enlarged_numbers k cs) ∙ length-map (numbers_of cs) (scale k); list_is = enlarged_numbers k cs };
 }
@@ -68,8 +69,8 @@ drawn_alike k o o' e = fitted_alike (λ (s : ℕ × ℕ). in_buffers s.0 s.1) (S
 -- ---- one buffer
 module _ {A : Type 0} (f : List A → List A) (none : [] ≡ f []) (long : (xs : List A) → length (f xs) ≡ length xs) where
   same_list : (o : Outcome (List A)) → SameList f o (mapped f o)
-  same_list (refused r) = record { number_same = refl; count_same = refl; list_is = none }
-  same_list (accepted xs) = record { number_same = refl; count_same = long xs; list_is = refl }
+  same_list (Err r) = record { number_same = refl; count_same = refl; list_is = none }
+  same_list (Ok xs) = record { number_same = refl; count_same = long xs; list_is = refl }
 
   listed_alike : (o o' : Outcome (List A)) → o' ≡ mapped f o → ListedAlike f o o'
   listed_alike o o' e = fitted_alike in_buffer (SameList f) f (λ s xs. ap (λ (n : ℕ). leb n s) (long xs)) same_list o o' e
@@ -84,8 +85,8 @@ moved_long k (a ∷ b ∷ c ∷ d ∷ e ∷ []) = refl
 moved_long k (a ∷ b ∷ c ∷ d ∷ e ∷ f ∷ rest) = refl
 
 same_mapped : {A : Type 0} (o : Outcome A) → o ≡ mapped (λ (a : A). a) o
-same_mapped (refused r) = refl
-same_mapped (accepted a) = refl
+same_mapped (Err r) = refl
+same_mapped (Ok a) = refl
 
 -- ---- all of them
 pub filled_alike : (k : ℕ) (p p' : Plate) → AnsweredAlike k p p' → FilledAlike k p p'

@@ -1,6 +1,7 @@
 -- A plate that meets the conditions of the claim, so that the claim is not about nothing: a closed triangle that is drawn, measured and cut,
 -- an ellipse that is drawn, two rectangles and the ellipse that are merged, and three copies.
 -- What some calls answer about it and about the plate four times as large stands below as numbers. Assumes nothing.
+use Rattle.std.specs.Prelude.{Ok}
 use Prim.Native.Nat.{ℕ, zero, suc, ◌<◌, ◌≤◌}
 use native.Mathlib.Nat.{not-suc-le-zero, le_of_suc-le-suc}
 use mathlib.Core.Path.{◌≡◌, refl}
@@ -24,7 +25,7 @@ use Rattle.ieee.proofs.Grid.{on→On}
 use Rattle.command.specs.declared.PathCommand.{PathCommand}
 use Rattle.command.specs.declared.PathCommand.TheVariants.{Move, Line, Cubic, Close}
 use Rattle.command.specs.Commands.{codes_of, numbers_of}
-use Rattle.command.specs.Outcomes.{accepted, mapped, list_of}
+use Rattle.command.specs.Outcomes.{mapped, list_of}
 use Rattle.path.specs.Path.{bezier_segment}
 use Rattle.rect.specs.Bounds.{rect_bounds}
 use Rattle.ellipse.specs.Ellipse.{tangent_on, ellipse_path}
@@ -132,7 +133,7 @@ all_on_grid_lem read v t i r h = go v t i h
     go (x ∷ xs) t zero h = on_grid x (and_l (fits binary32 x && on 10 13 x) (all_on_grid xs) t)
     go (x ∷ xs) t (suc i) h = go xs (and_r (fits binary32 x && on 10 13 x) (all_on_grid xs) t) i (le_of_suc-le-suc h)
 
-triangle_drawn : draw_path 1 triangle 3 ≡ accepted sides
+triangle_drawn : draw_path 1 triangle 3 ≡ Ok sides
 unfolding draw_path bezier_segment sub of_bits le
 triangle_drawn = refl
 
@@ -174,7 +175,7 @@ twelve = of_bits binary32 0x4140_0000
 abbrev sixteen : Float
 sixteen = of_bits binary32 0x4180_0000
 
-larger_drawn : draw_path 1 larger.vertices 3 ≡ accepted (Move zero32 zero32 ∷ Line twelve zero32 ∷ Line twelve sixteen ∷ Line zero32 zero32 ∷ Close ∷ [])
+larger_drawn : draw_path 1 larger.vertices 3 ≡ Ok (Move zero32 zero32 ∷ Line twelve zero32 ∷ Line twelve sixteen ∷ Line zero32 zero32 ∷ Close ∷ [])
 unfolding enlarge draw_path bezier_segment sub mul of_bits le
 larger_drawn = refl
 
@@ -184,7 +185,7 @@ f n = of_bits binary32 n
 
 -- the ellipse around (10, 0), and around (40, 0)
 ellipse_drawn : draw_item lent.row plate.items
-    ≡ accepted (
+    ≡ Ok (
     Move (f 0x4120_0000) (f 0xc000_0000)
     ∷ Cubic (f 0x412d_413d) (f 0xc000_0000) (f 0x4138_0000) (f 0xbf8d_6289) (f 0x4138_0000) zero32
     ∷ Cubic (f 0x4138_0000) (f 0x3f8d_6289) (f 0x412d_413d) (f 0x4000_0000) (f 0x4120_0000) (f 0x4000_0000)
@@ -195,7 +196,7 @@ unfolding draw_item le tangent_on ellipse_path rect_bounds fma mul sub neg sum r
 ellipse_drawn = refl
 
 larger_ellipse_drawn : draw_item lent.row larger.items
-    ≡ accepted (
+    ≡ Ok (
     Move (f 0x4220_0000) (f 0xc100_0000)
     ∷ Cubic (f 0x422d_413d) (f 0xc100_0000) (f 0x4238_0000) (f 0xc08d_6289) (f 0x4238_0000) zero32
     ∷ Cubic (f 0x4238_0000) (f 0x408d_6289) (f 0x422d_413d) (f 0x4100_0000) (f 0x4220_0000) (f 0x4100_0000)
@@ -206,27 +207,27 @@ unfolding enlarge draw_item le tangent_on ellipse_path rect_bounds fma mul sub n
 larger_ellipse_drawn = refl
 
 -- 12, and 48
-length_12 : measure_list lent.codes plate.numbers ≡ accepted twelve
+length_12 : measure_list lent.codes plate.numbers ≡ Ok twelve
 unfolding sub mul of_bits le hypot_of isqrt all_within
     distance measure.start_pen measure.move_to measure.line_to measure.close measure.step measure.steps measure.length_after measure.path_length
     reader.size_of_code reader.command_at reader.command_checks reader.read_command judge.in_front judge.read_list judge.judge_list measure_list
 length_12 = refl
 
-length_48 : measure_list lent.codes larger.numbers ≡ accepted (of_bits binary32 0x4240_0000)
+length_48 : measure_list lent.codes larger.numbers ≡ Ok (of_bits binary32 0x4240_0000)
 unfolding enlarge sub mul of_bits le hypot_of isqrt all_within
     distance measure.start_pen measure.move_to measure.line_to measure.close measure.step measure.steps measure.length_after measure.path_length
     reader.size_of_code reader.command_at reader.command_checks reader.read_command judge.in_front judge.read_list judge.judge_list measure_list
 length_48 = refl
 
 -- 7 is reached by the second side, and so is 28
-reached_7 : length_reaches lent.codes plate.numbers plate.least ≡ accepted (true, 3)
+reached_7 : length_reaches lent.codes plate.numbers plate.least ≡ Ok (true, 3)
 unfolding sub of_bits le hypot_of isqrt all_within
     distance measure.start_pen measure.move_to measure.line_to measure.close measure.step measure.steps measure.length_after measure.path_length
     reader.size_of_code reader.command_at reader.command_checks reader.read_command judge.in_front judge.read_list judge.judge_list judge.place_of measure_list
     reach.first_length reach.long_enough reach.one_more reach.fewest reach.yes_or_no reach.is_length length_reaches
 reached_7 = refl
 
-reached_28 : length_reaches lent.codes larger.numbers larger.least ≡ accepted (true, 3)
+reached_28 : length_reaches lent.codes larger.numbers larger.least ≡ Ok (true, 3)
 unfolding enlarge sub mul of_bits le hypot_of isqrt all_within
     distance measure.start_pen measure.move_to measure.line_to measure.close measure.step measure.steps measure.length_after measure.path_length
     reader.size_of_code reader.command_at reader.command_checks reader.read_command judge.in_front judge.read_list judge.judge_list judge.place_of measure_list
@@ -248,19 +249,19 @@ unfolding enlarge sub mul div le of_int of_bits min max clamp fma rem_euclid hyp
     offset_of placed_at snapped near near_both is_whole ranges_between lower upper normalized_trim_segments is_finite_trim is_trim_mode cut_measured trim_lengths lengths_answer part_of
 cuts_48 = refl
 
-rows_joined : decision lent.rows lent.row_count ≡ accepted (0 ∷ 1 ∷ 2 ∷ [])
+rows_joined : decision lent.rows lent.row_count ≡ Ok (0 ∷ 1 ∷ 2 ∷ [])
 unfolding decision ruling
 rows_joined = refl
 
 -- the last copy is shifted by 20, and by 80
-shift_20 : transform_answer plate.repeater 2 ≡ accepted (one32 ∷ zero32 ∷ zero32 ∷ one32 ∷ of_bits binary32 0x41a0_0000 ∷ zero32 ∷ zero32 ∷ [])
+shift_20 : transform_answer plate.repeater 2 ≡ Ok (one32 ∷ zero32 ∷ zero32 ∷ one32 ∷ of_bits binary32 0x41a0_0000 ∷ zero32 ∷ zero32 ∷ [])
 unfolding of_bits all_within lt le of_int add sub mul div fma concat pre_translate pre_scale pre_rotate sixteenths_in sixteenths_of reduced turn_of
     repeater.copy_count repeater.step_scale repeater.step_part repeater.step_matrix repeater.step_transform repeater.steps
     repeater.iteration_transform repeater.copy_transform repeater.opacity_of repeater.copy_opacity
     has_too_many repeater_checks copy_numbers all_finite copy_answer transform_answer
 shift_20 = refl
 
-shift_80 : transform_answer larger.repeater 2 ≡ accepted (one32 ∷ zero32 ∷ zero32 ∷ one32 ∷ of_bits binary32 0x42a0_0000 ∷ zero32 ∷ zero32 ∷ [])
+shift_80 : transform_answer larger.repeater 2 ≡ Ok (one32 ∷ zero32 ∷ zero32 ∷ one32 ∷ of_bits binary32 0x42a0_0000 ∷ zero32 ∷ zero32 ∷ [])
 unfolding enlarge of_bits all_within lt le of_int add sub mul div fma concat pre_translate pre_scale pre_rotate sixteenths_in sixteenths_of reduced turn_of
     repeater.copy_count repeater.step_scale repeater.step_part repeater.step_matrix repeater.step_transform repeater.steps
     repeater.iteration_transform repeater.copy_transform repeater.opacity_of repeater.copy_opacity

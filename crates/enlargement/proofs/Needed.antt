@@ -1,4 +1,5 @@
 -- What goes wrong without some of the claim's conditions, by computing. Assumes nothing.
+use Rattle.std.specs.Prelude.{Ok, Err}
 use Prim.Native.Nat.{ℕ}
 use mathlib.Core.Path.{◌≡◌, refl}
 use mathlib.Core.Bool.{Bool, false}
@@ -11,7 +12,7 @@ use Rattle.ieee.specs.Root.{hypot_of, isqrt}
 use Rattle.command.specs.declared.PathCommand.{PathCommand}
 use Rattle.command.specs.declared.PathCommand.TheVariants.{Move, Line, Cubic}
 use Rattle.command.specs.declared.Refusal.TheVariants.{OutOfRange, NotFinite}
-use Rattle.command.specs.Outcomes.{Outcome, refused, accepted}
+use Rattle.command.specs.Outcomes.{Outcome}
 use Rattle.path.specs.Path.{bezier_segment}
 use Rattle.draw.specs.Paths.{draw_path}
 use Rattle.curve.specs.Curve.{distance}
@@ -37,11 +38,11 @@ two_14 = of_bits binary32 0x3880_0000
 abbrev two_13 : Float
 two_13 = of_bits binary32 0x3900_0000
 
-finer_is_line : tangent two_14 ≡ accepted (Move zero32 zero32 ∷ Line one32 zero32 ∷ [])
+finer_is_line : tangent two_14 ≡ Ok (Move zero32 zero32 ∷ Line one32 zero32 ∷ [])
 unfolding draw_path bezier_segment add sub of_bits le
 finer_is_line = refl
 
-twice_is_cubic : tangent two_13 ≡ accepted (Move zero32 zero32 ∷ Cubic two_13 zero32 one32 zero32 one32 zero32 ∷ [])
+twice_is_cubic : tangent two_13 ≡ Ok (Move zero32 zero32 ∷ Cubic two_13 zero32 one32 zero32 one32 zero32 ∷ [])
 unfolding draw_path bezier_segment add sub of_bits le
 twice_is_cubic = refl
 
@@ -49,11 +50,11 @@ twice_is_cubic = refl
 abbrev one_vertex : Float → Outcome (List PathCommand)
 one_vertex x = draw_path 0 (x ∷ zero32 ∷ zero32 ∷ zero32 ∷ zero32 ∷ zero32 ∷ []) 1
 
-at_the_limit : one_vertex (of_bits binary32 0x4980_0000) ≡ accepted (Move (of_bits binary32 0x4980_0000) zero32 ∷ Line (of_bits binary32 0x4980_0000) zero32 ∷ [])
+at_the_limit : one_vertex (of_bits binary32 0x4980_0000) ≡ Ok (Move (of_bits binary32 0x4980_0000) zero32 ∷ Line (of_bits binary32 0x4980_0000) zero32 ∷ [])
 unfolding draw_path of_bits le
 at_the_limit = refl
 
-over_the_limit : one_vertex (of_bits binary32 0x4a00_0000) ≡ refused OutOfRange
+over_the_limit : one_vertex (of_bits binary32 0x4a00_0000) ≡ Err OutOfRange
 unfolding draw_path of_bits le
 over_the_limit = refl
 
@@ -73,14 +74,14 @@ copy_at offset anchor position scale copy =
     }) copy
 
 large_scale : copy_at zero32 (of_bits binary32 0x4480_0000) zero32 (of_bits binary32 0x4948_0000) 9
-    ≡ accepted (of_bits binary32 0x7a00_0000 ∷ zero32 ∷ zero32 ∷ one32 ∷ of_bits binary32 0xff00_0000 ∷ zero32 ∷ one32 ∷ [])
+    ≡ Ok (of_bits binary32 0x7a00_0000 ∷ zero32 ∷ zero32 ∷ one32 ∷ of_bits binary32 0xff00_0000 ∷ zero32 ∷ one32 ∷ [])
 unfolding of_bits all_within lt le of_int add sub mul div fma concat pre_translate pre_scale pre_rotate sixteenths_in sixteenths_of reduced turn_of
     repeater.copy_count repeater.step_scale repeater.step_part repeater.step_matrix repeater.step_transform repeater.steps
     repeater.iteration_transform repeater.copy_transform repeater.opacity_of repeater.copy_opacity
     has_too_many repeater_checks copy_numbers all_finite copy_answer transform_answer
 large_scale = refl
 
-large_scale_enlarged : copy_at zero32 (of_bits binary32 0x4500_0000) zero32 (of_bits binary32 0x4948_0000) 9 ≡ refused NotFinite
+large_scale_enlarged : copy_at zero32 (of_bits binary32 0x4500_0000) zero32 (of_bits binary32 0x4948_0000) 9 ≡ Err NotFinite
 unfolding of_bits all_within lt le of_int add sub mul div fma concat pre_translate pre_scale pre_rotate sixteenths_in sixteenths_of reduced turn_of
     repeater.copy_count repeater.step_scale repeater.step_part repeater.step_matrix repeater.step_transform repeater.steps
     repeater.iteration_transform repeater.copy_transform repeater.opacity_of repeater.copy_opacity
@@ -89,7 +90,7 @@ large_scale_enlarged = refl
 
 -- ---- the anchor is multiplied with the position: around 8,192 a third of a step by 1 is rounded to 341 / 1,024, and a third of a step by 2 to 683 / 1,024, which is not twice that
 third_of_one : copy_at (of_bits binary32 0x3eaa_aaab) (of_bits binary32 0x4600_0000) one32 (of_bits binary32 0x42c8_0000) 0
-    ≡ accepted (one32 ∷ zero32 ∷ zero32 ∷ one32 ∷ of_bits binary32 0x3eaa_8000 ∷ zero32 ∷ one32 ∷ [])
+    ≡ Ok (one32 ∷ zero32 ∷ zero32 ∷ one32 ∷ of_bits binary32 0x3eaa_8000 ∷ zero32 ∷ one32 ∷ [])
 unfolding of_bits all_within lt le of_int add sub mul div fma concat pre_translate pre_scale pre_rotate sixteenths_in sixteenths_of reduced turn_of
     repeater.copy_count repeater.step_scale repeater.step_part repeater.step_matrix repeater.step_transform repeater.steps
     repeater.iteration_transform repeater.copy_transform repeater.opacity_of repeater.copy_opacity
@@ -97,7 +98,7 @@ unfolding of_bits all_within lt le of_int add sub mul div fma concat pre_transla
 third_of_one = refl
 
 third_of_two : copy_at (of_bits binary32 0x3eaa_aaab) (of_bits binary32 0x4600_0000) (of_bits binary32 0x4000_0000) (of_bits binary32 0x42c8_0000) 0
-    ≡ accepted (one32 ∷ zero32 ∷ zero32 ∷ one32 ∷ of_bits binary32 0x3f2a_c000 ∷ zero32 ∷ one32 ∷ [])
+    ≡ Ok (one32 ∷ zero32 ∷ zero32 ∷ one32 ∷ of_bits binary32 0x3f2a_c000 ∷ zero32 ∷ one32 ∷ [])
 unfolding of_bits all_within lt le of_int add sub mul div fma concat pre_translate pre_scale pre_rotate sixteenths_in sixteenths_of reduced turn_of
     repeater.copy_count repeater.step_scale repeater.step_part repeater.step_matrix repeater.step_transform repeater.steps
     repeater.iteration_transform repeater.copy_transform repeater.opacity_of repeater.copy_opacity
@@ -108,13 +109,13 @@ third_of_two = refl
 abbrev asked : Float → Outcome (Bool × ℕ)
 asked least = length_reaches (0 ∷ 1 ∷ []) (zero32 ∷ zero32 ∷ of_bits binary32 0x4040_0000 ∷ of_bits binary32 0x4080_0000 ∷ []) least
 
-large_length : asked (of_bits binary32 0x7f00_0000) ≡ accepted (false, 2)
+large_length : asked (of_bits binary32 0x7f00_0000) ≡ Ok (false, 2)
 unfolding sub of_bits le hypot_of isqrt all_within
     distance measure.start_pen measure.move_to measure.line_to measure.step measure.steps measure.length_after measure.path_length
     reader.size_of_code reader.command_at reader.command_checks reader.read_command judge.in_front judge.read_list judge.judge_list judge.place_of measure_list
     reach.first_length reach.long_enough reach.one_more reach.fewest reach.yes_or_no reach.is_length length_reaches
 large_length = refl
 
-large_length_enlarged : asked (times 1 (of_bits binary32 0x7f00_0000)) ≡ refused OutOfRange
+large_length_enlarged : asked (times 1 (of_bits binary32 0x7f00_0000)) ≡ Err OutOfRange
 unfolding mul of_bits reach.is_length length_reaches
 large_length_enlarged = refl

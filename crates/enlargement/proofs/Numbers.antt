@@ -1,4 +1,5 @@
 -- What is drawn of numbers on the grid is an f32 on a finer grid and is multiplied with them, and so is what is measured and cut of it, and a copy's shift. Assumes nothing.
+use Rattle.std.specs.Prelude.{Ok, Err}
 use Prim.Native.Nat.{ℕ, zero, suc, ◌+◌, ◌≤◌, ◌<◌}
 use native.Mathlib.Omega.{arith}
 use borrow.Author.Tests.{ltb-true, not-false}
@@ -16,7 +17,7 @@ use Rattle.command.specs.declared.PathCommand.{PathCommand}
 use Rattle.command.specs.declared.Refusal.{Refusal}
 use Rattle.command.specs.declared.Refusal.TheVariants.{NoSuchCopy, NotFinite}
 use Rattle.command.specs.Commands.{codes_of, numbers_of}
-use Rattle.command.specs.Outcomes.{Outcome, refused, accepted, mapped, list_of, ◌gives◌, checked, AllPass}
+use Rattle.command.specs.Outcomes.{Outcome, mapped, list_of, ◌gives◌, checked, AllPass}
 use Rattle.command.specs.Enlarged.{AllOn, Twins, DrawingTwin, enlarged}
 use Rattle.command.proofs.Outcomes.{checks_hold}
 use Rattle.command.proofs.Enlarged.{all_weaken}
@@ -137,7 +138,7 @@ merge_small rows n items G = record {
   grid = (merge_alike 1 (lit≤ tt) rows n items (map (scale 1) items) (scaled_twins 1 (OfMerge rows n) items G)).grid;
 }
 
-accepted_small : (o : Outcome (List PathCommand)) (cs : List PathCommand) → Small 35 16 (numbers_of (list_of o)) → o ≡ accepted cs → Small 35 16 (numbers_of cs)
+accepted_small : (o : Outcome (List PathCommand)) (cs : List PathCommand) → Small 35 16 (numbers_of (list_of o)) → o ≡ Ok cs → Small 35 16 (numbers_of cs)
 accepted_small o cs X e = subst (λ (p : Outcome (List PathCommand)). Small 35 16 (numbers_of (list_of p))) e X
 
 pub made_small : (cs : List PathCommand) → Made cs → Small 35 16 (numbers_of cs)
@@ -151,7 +152,7 @@ module _ (cs : List PathCommand) (M : Small 35 16 (numbers_of cs)) where
   same : Twins 1 35 16 cs (map (enlarged 1) cs)
   same = record { commands = refl; grid = M.grid }
 
-  judged_is : judge_list (codes_of cs) (numbers_of cs) ≡ checked (length_check (length cs)) (accepted cs)
+  judged_is : judge_list (codes_of cs) (numbers_of cs) ≡ checked (length_check (length cs)) (Ok cs)
   judged_is = judged_first same (lit≤ tt)
 
   length_on : On 91 71 (path_length cs)
@@ -161,7 +162,7 @@ module _ (cs : List PathCommand) (M : Small 35 16 (numbers_of cs)) where
   unfolding measure_list
   length_small =
       rw judged_is
-      (checks_hold (λ (o : Outcome (List PathCommand)). Small 91 71 (length_numbers (mapped path_length o))) (λ r. none_small 91 71) (length_check (length cs)) (accepted cs)
+      (checks_hold (λ (o : Outcome (List PathCommand)). Small 91 71 (length_numbers (mapped path_length o))) (λ r. none_small 91 71) (length_check (length cs)) (Ok cs)
       (λ pass. record { single = (length_single cs, tt); grid = (length_on, tt) }))
 
   pub part_small : (j : ℕ) → Small 35 16 (command_part (codes_of cs) (numbers_of cs) j)
@@ -172,8 +173,8 @@ module _ (cs : List PathCommand) (M : Small 35 16 (numbers_of cs)) where
       part = take (size_of_code (get_or (codes_of cs) j 3)) (drop (place_of j (codes_of cs)) (numbers_of cs))
 
       go : (o : Outcome (List PathCommand)) → Small 35 16 (list_of (mapped (λ (ps : List PathCommand). part) o))
-      go (refused r) = none_small 35 16
-      go (accepted ds) = small_take (size_of_code (get_or (codes_of cs) j 3)) (drop (place_of j (codes_of cs)) (numbers_of cs)) (small_drop (place_of j (codes_of cs)) (numbers_of cs) M)
+      go (Err r) = none_small 35 16
+      go (Ok ds) = small_take (size_of_code (get_or (codes_of cs) j 3)) (drop (place_of j (codes_of cs)) (numbers_of cs)) (small_drop (place_of j (codes_of cs)) (numbers_of cs) M)
 
   pub cuts_small : (trim : TrimStyle) → Small 128 72 (list_of (mapped told_numbers (lengths_answer trim (codes_of cs) (numbers_of cs))))
   cuts_small trim =
@@ -209,7 +210,7 @@ unfolding transform_answer copy_answer copy_numbers
 shift_small p G copy =
     checks_hold SmallShift none (repeater_checks r) (copy_answer r copy)
     (λ pass.
-    checks_hold SmallShift none ((not (ltb copy (copy_count r)) gives NoSuchCopy) ∷ (not (all_finite numbers) gives NotFinite) ∷ []) (accepted numbers)
+    checks_hold SmallShift none ((not (ltb copy (copy_count r)) gives NoSuchCopy) ∷ (not (all_finite numbers) gives NotFinite) ∷ []) (Ok numbers)
     (λ found. shift pass (ltb-true copy (copy_count r) (not-false (ltb copy (copy_count r)) found.0))))
   where
     r : RepeaterStyle
@@ -221,7 +222,7 @@ shift_small p G copy =
     SmallShift : Outcome (List Float) → Type 0
     SmallShift o = Small 56 43 (shift_numbers o)
 
-    none : (refusal : Refusal) → SmallShift (refused refusal)
+    none : (refusal : Refusal) → SmallShift (Err refusal)
     none refusal = none_small 56 43
 
     shift : AllPass (repeater_checks r) → copy < copy_count r → Small 56 43 ((copy_transform r copy).e ∷ (copy_transform r copy).f ∷ [])

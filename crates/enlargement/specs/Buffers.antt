@@ -2,12 +2,12 @@
 -- Definitions only. Trays are large enough, in document 01's words, if neither plate gets 11; then the number, the codes and both counts are the same,
 -- and the numbers are multiplied.
 -- Where both plates are given buffers of one size, nothing is asked of it: 11 is the same too.
-use Rattle.std.specs.Prelude.{ℕ, ◌≡◌, Bool, List, map, length}
+use Rattle.std.specs.Prelude.{ℕ, ◌≡◌, Bool, List, map, length, Err}
 use Rattle.ieee.specs.Grid.{scale}
 use Rattle.command.specs.declared.PathCommand.{PathCommand}
 use Rattle.command.specs.declared.Refusal.TheVariants.{BufferTooSmall}
 use Rattle.command.specs.Commands.{codes_of, numbers_of}
-use Rattle.command.specs.Outcomes.{Outcome, refused, number_of, mapped, list_of}
+use Rattle.command.specs.Outcomes.{Outcome, number_of, mapped, list_of}
 use Rattle.command.specs.Buffers.{fitted, in_buffer, in_buffers}
 use Rattle.draw.specs.Paths.{draw_path}
 use Rattle.draw.specs.Items.{draw_item}
@@ -29,7 +29,7 @@ pub record SameLines (k : ℕ) (o o' : Outcome (List PathCommand)) : Type 0 wher
 
 -- buffers that an answer has to fit are not too small
 abbrev pub Holds : {A : Type 0} → (A → Bool) → Outcome A → Type 0
-Holds fits o = fitted fits o ≡ refused BufferTooSmall → ⊥
+Holds fits o = fitted fits o ≡ Err BufferTooSmall → ⊥
 
 -- two outcomes that are to fit buffers of sizes S are alike
 pub record FittedAlike {A S : Type 0} (fits : S → A → Bool) (Same : Outcome A → Outcome A → Type 0) (o o' : Outcome A) : Type 0 where

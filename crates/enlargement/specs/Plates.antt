@@ -1,5 +1,5 @@
 -- A plate, a plate on the grid, and a plate that is another one enlarged. Definitions only.
-use Rattle.std.specs.Prelude.{ℕ, ◌+◌, ◌*◌, ◌≤◌, ◌<◌, ◌≡◌, true, false, List, [], map, pos, Float, length, get_or}
+use Rattle.std.specs.Prelude.{ℕ, ◌+◌, ◌*◌, ◌≤◌, ◌<◌, ◌≡◌, true, false, List, [], map, pos, Float, length, get_or, Ok}
 use Rattle.std.specs.Float.{nan, fin, binary32}
 use Rattle.std.specs.Float.Ieee.{fits, mul, eq}
 use Rattle.std.specs.Float.Ieee.Scale.{finite}
@@ -7,7 +7,6 @@ use Rattle.ieee.specs.Literal.{zero32, hundred32}
 use Rattle.ieee.specs.Grid.{On}
 use Rattle.command.specs.declared.PathCommand.{PathCommand}
 use Rattle.command.specs.Commands.{codes_of, numbers_of}
-use Rattle.command.specs.Outcomes.{accepted}
 use Rattle.item.specs.declared.ItemRow.{ItemRow}
 use Rattle.item.specs.Rows.{item_row, entries_of}
 use Rattle.draw.specs.Paths.{draw_path}
@@ -72,9 +71,9 @@ GridAt read v = (i : ℕ) → read i → i < length v → OnGrid (get_or v i nan
 -- a command list that is what drawing or a merge gives for items on the grid, or none
 pub data Made : List PathCommand → Type 0 where
   of_nothing : Made []
-  of_vertices : (closed count : ℕ) (v : List Float) (cs : List PathCommand) → GridAt (OfVertices count) v → draw_path closed v count ≡ accepted cs → Made cs
-  of_row : (row : List ℕ) (items : List Float) (cs : List PathCommand) → GridAt (OfRow (item_row row 0)) items → draw_item row items ≡ accepted cs → Made cs
-  of_merge : (rows : List ℕ) (n : ℕ) (items : List Float) (cs : List PathCommand) → GridAt (OfMerge rows n) items → draw_merge rows n items ≡ accepted cs → Made cs
+  of_vertices : (closed count : ℕ) (v : List Float) (cs : List PathCommand) → GridAt (OfVertices count) v → draw_path closed v count ≡ Ok cs → Made cs
+  of_row : (row : List ℕ) (items : List Float) (cs : List PathCommand) → GridAt (OfRow (item_row row 0)) items → draw_item row items ≡ Ok cs → Made cs
+  of_merge : (rows : List ℕ) (n : ℕ) (items : List Float) (cs : List PathCommand) → GridAt (OfMerge rows n) items → draw_merge rows n items ≡ Ok cs → Made cs
 
 -- The conditions of the third demand: every number that is read as a coordinate is on the grid, the command list is made of such, and the repeater
 -- scales by 100 and has no rotation, that is one of +0 or -0: of turned copies nothing is claimed. Nothing is asked of numbers that are not read, nor

@@ -20,9 +20,7 @@ ghost use Rattle.reach.specs.Reach.{length_reaches, Replied};
 ghost use Rattle.cut.specs.Answers.{ranges_answer, lengths_answer, Placed};
 ghost use Rattle.copies.specs.Calls.{repeater_of, order_answer, transform_answer};
 
-use cut::{Shown, Trimmed};
-use length::Measured;
-use reach::Reply;
+
 use trim::TrimStyle;
 
 #[unsafe(no_mangle)]
@@ -74,6 +72,7 @@ pub extern "C" fn jengafir_rem_euclid_360(x: f32) -> f32
     remainder::rem_euclid_360(x)
 }
 
+#[tactic(auto, using(command::proofs::Buffers::both_told))]
 #[unsafe(no_mangle)]
 pub extern "C" fn jengafir_draw_path(
     closed: u32,
@@ -90,9 +89,10 @@ pub extern "C" fn jengafir_draw_path(
         codes.old codes.new numbers.old numbers.new }
 {
     let drawn = draw::draw_path(closed, vertices, count, codes, numbers);
-    command::tell(drawn, codes_written, numbers_written)
+    command::tell_size(drawn, codes_written, numbers_written)
 }
 
+#[tactic(auto, using(command::proofs::Buffers::both_told))]
 #[unsafe(no_mangle)]
 pub extern "C" fn jengafir_draw_item(
     row: &[u32],
@@ -108,7 +108,7 @@ pub extern "C" fn jengafir_draw_item(
         codes.old codes.new numbers.old numbers.new }
 {
     let drawn = draw::draw_item(row, items, codes, numbers);
-    command::tell(drawn, codes_written, numbers_written)
+    command::tell_size(drawn, codes_written, numbers_written)
 }
 
 #[unsafe(no_mangle)]
@@ -122,7 +122,7 @@ pub extern "C" fn jengafir_tray_need(
     ensures { Counted (need_of (draw_path closed vertices.now count))
         result codes_needed.new numbers_needed.new }
 {
-    command::tell(
+    command::tell_size(
         need::path_need(closed, vertices, count),
         codes_needed,
         numbers_needed,
@@ -139,9 +139,10 @@ pub extern "C" fn jengafir_item_need(
     ensures { Counted (need_of (draw_item row.now items.now))
         result codes_needed.new numbers_needed.new }
 {
-    command::tell(need::item_need(row, items), codes_needed, numbers_needed)
+    command::tell_size(need::item_need(row, items), codes_needed, numbers_needed)
 }
 
+#[tactic(auto, using(command::proofs::Buffers::both_told))]
 #[unsafe(no_mangle)]
 pub extern "C" fn jengafir_merge(
     rows: &[u32],
@@ -158,7 +159,7 @@ pub extern "C" fn jengafir_merge(
         codes.old codes.new numbers.old numbers.new }
 {
     let drawn = join::draw_merge(rows, row_count, items, codes, numbers);
-    command::tell(drawn, codes_written, numbers_written)
+    command::tell_size(drawn, codes_written, numbers_written)
 }
 
 #[unsafe(no_mangle)]
@@ -172,26 +173,28 @@ pub extern "C" fn jengafir_merge_need(
     ensures { Counted (need_of (draw_merge rows.now row_count items.now))
         result codes_needed.new numbers_needed.new }
 {
-    command::tell(
+    command::tell_size(
         join::merge_need(rows, row_count, items),
         codes_needed,
         numbers_needed,
     )
 }
 
+#[tactic(auto, using(length::proofs::Ways::told))]
 #[unsafe(no_mangle)]
 pub extern "C" fn jengafir_length(codes: &[u8], numbers: &[f32], length: &mut f32) -> u32
     ensures { Told (measure_list codes.now numbers.now) result length.old length.new }
 {
     match length::path_length(codes, numbers) {
-        Measured::Refused(refusal) => command::refusal_number(refusal),
-        Measured::Length(x) => {
+        Err(refusal) => u32::from(refusal),
+        Ok(x) => {
             *length = x;
             0
         }
     }
 }
 
+#[tactic(auto, using(reach::proofs::Ways::replying))]
 #[unsafe(no_mangle)]
 pub extern "C" fn jengafir_length_reaches(
     codes: &[u8],
@@ -204,17 +207,12 @@ pub extern "C" fn jengafir_length_reaches(
         result commands_read.new reached.old reached.new }
 {
     match reach::length_reaches(codes, numbers, least) {
-        Reply::Refused(refusal) => {
+        Err(refusal) => {
             *commands_read = 0;
-            command::refusal_number(refusal)
+            u32::from(refusal)
         }
-        Reply::Yes(count) => {
-            *reached = 1;
-            *commands_read = count;
-            0
-        }
-        Reply::No(count) => {
-            *reached = 0;
+        Ok((yes, count)) => {
+            *reached = u32::from(yes);
             *commands_read = count;
             0
         }
@@ -234,6 +232,7 @@ pub extern "C" fn jengafir_command(
     command::tell(judge::find_command(codes, numbers, k), start, count)
 }
 
+#[tactic(auto, using(cut::proofs::Ways::telling))]
 #[unsafe(no_mangle)]
 pub extern "C" fn jengafir_trim_ranges(
     start: f32,
@@ -254,11 +253,11 @@ pub extern "C" fn jengafir_trim_ranges(
         mode: 1,
     };
     match cut::trim_ranges(trim) {
-        Shown::Refused(refusal) => {
+        Err(refusal) => {
             *range_count = 0;
-            command::refusal_number(refusal)
+            u32::from(refusal)
         }
-        Shown::Visible(visible) => {
+        Ok(visible) => {
             cut::put_ranges(visible, ranges);
             *range_count = trim::range_count(visible);
             *whole = cut::mark_of(visible);
@@ -267,6 +266,7 @@ pub extern "C" fn jengafir_trim_ranges(
     }
 }
 
+#[tactic(auto, using(cut::proofs::Ways::telling))]
 #[unsafe(no_mangle)]
 pub extern "C" fn jengafir_trim_lengths(
     start: f32,
@@ -290,11 +290,11 @@ pub extern "C" fn jengafir_trim_lengths(
         mode,
     };
     match cut::trim_lengths(trim, codes, numbers) {
-        Trimmed::Refused(refusal) => {
+        Err(refusal) => {
             *range_count = 0;
-            command::refusal_number(refusal)
+            u32::from(refusal)
         }
-        Trimmed::Cut(total, visible) => {
+        Ok((total, visible)) => {
             cut::put_cuts(total, visible, cuts);
             *range_count = trim::range_count(visible);
             *whole = cut::mark_of(visible);
@@ -303,6 +303,7 @@ pub extern "C" fn jengafir_trim_lengths(
     }
 }
 
+#[tactic(auto, using(copies::proofs::Ways::telling))]
 #[unsafe(no_mangle)]
 pub extern "C" fn jengafir_copy_order(
     repeater: &[f32; 11],
@@ -315,10 +316,11 @@ pub extern "C" fn jengafir_copy_order(
         result order_count.new order.old order.new }
 {
     let written = copies::copy_order(copies::repeater_of(repeater, mode), order);
-    *order_count = copies::written_count(written);
-    copies::written_number(written)
+    *order_count = written.unwrap_or(0);
+    command::number_of(written)
 }
 
+#[tactic(auto, using(copies::proofs::Ways::telling))]
 #[unsafe(no_mangle)]
 pub extern "C" fn jengafir_copy_transform(
     repeater: &[f32; 11],
@@ -332,6 +334,6 @@ pub extern "C" fn jengafir_copy_transform(
         result matrix_count.new matrix.old matrix.new }
 {
     let written = copies::copy_transform(copies::repeater_of(repeater, mode), copy, matrix);
-    *matrix_count = copies::written_count(written);
-    copies::written_number(written)
+    *matrix_count = written.unwrap_or(0);
+    command::number_of(written)
 }

@@ -1,6 +1,7 @@
 -- A merge of enlarged items is the enlarged merge: the refusals are the same, and every number of the commands is multiplied. The numbers of rows that
 -- are not joined may differ
 -- freely. Assumes nothing.
+use Rattle.std.specs.Prelude.{Ok, Err}
 use mathlib.Core.Path.{◌≡◌, refl}
 use mathlib.Core.List.{List, [], ◌∷◌, map}
 use Prim.Native.Nat.{ℕ, suc, ◌+◌, ◌≤◌, ◌<◌}
@@ -11,7 +12,7 @@ use lib.ListN.{length, get_or}
 use Rattle.ieee.specs.Grid.{Twin}
 use Rattle.command.specs.declared.PathCommand.{PathCommand}
 use Rattle.command.specs.Commands.{numbers_of}
-use Rattle.command.specs.Outcomes.{Outcome, refused, accepted, and_then, list_of}
+use Rattle.command.specs.Outcomes.{Outcome, and_then, list_of}
 use Rattle.command.specs.Enlarged.{AllOn, enlarged_drawing, DrawingTwin}
 use Rattle.command.proofs.Enlarged.{twins_none, twins_append, drawing_refused, drawing_accepted}
 use Rattle.item.specs.declared.ItemRow.{ItemRow}
@@ -28,10 +29,10 @@ module _ {k q b : ℕ} where
   drawing_followed {o} {o'} {p} {p'} O P = rw (O.outcome, P.outcome) (go o p O.grid P.grid)
     where
       go : (o p : Outcome (List PathCommand)) → AllOn q b (numbers_of (list_of o)) → AllOn q b (numbers_of (list_of p)) → DrawingTwin k q b (followed_by o p) (followed_by (enlarged_drawing k o) (enlarged_drawing k p))
-      go (refused r) (refused s) A B = drawing_refused _
-      go (refused r) (accepted ds) A B = drawing_refused r
-      go (accepted cs) (refused r) A B = drawing_refused r
-      go (accepted cs) (accepted ds) A B = drawing_accepted (twins_append {cs = cs} {ds = ds} (record { commands = refl; grid = A }) (record { commands = refl; grid = B }))
+      go (Err r) (Err s) A B = drawing_refused _
+      go (Err r) (Ok ds) A B = drawing_refused r
+      go (Ok cs) (Err r) A B = drawing_refused r
+      go (Ok cs) (Ok ds) A B = drawing_accepted (twins_append {cs = cs} {ds = ds} (record { commands = refl; grid = A }) (record { commands = refl; grid = B }))
 
 sources_outcome : (k q b : ℕ) (rows : List ℕ) (items items' : List Float) (numbers : List ℕ)
     → ((i : ℕ) → i < length numbers → DrawingTwin k q b (draw_source (item_row rows (get_or numbers i 0)) items) (draw_source (item_row rows (get_or numbers i 0)) items'))
@@ -49,8 +50,8 @@ unfolding draw_merge draw_joined
 merge_outcome k K rows n items items' long twins = go (decision rows n) refl
   where
     go : (d : Outcome (List ℕ)) → decision rows n ≡ d → DrawingTwin k 35 16 (and_then d (draw_joined rows items)) (and_then d (draw_joined rows items'))
-    go (refused r) e = drawing_refused r
-    go (accepted numbers) e =
+    go (Err r) e = drawing_refused r
+    go (Ok numbers) e =
         sources_outcome k 35 16 rows items items' numbers
         (λ i h.
         let r : ItemRow = item_row rows (get_or numbers i 0) in

@@ -1,4 +1,5 @@
 -- Which rows a merge joins: source rows before the merge row, so visible ones of the first n at depth 0, and at most 255. Assumes nothing.
+use Rattle.std.specs.Prelude.{Ok, Err}
 use mathlib.Core.Path.{◌≡◌, refl, sym, ap, ◌∙◌}
 use mathlib.Core.Bool.{Bool, true, false, cond, ◌&&◌}
 use mathlib.Core.List.{List, [], ◌∷◌}
@@ -7,7 +8,6 @@ use native.Mathlib.Omega.{arith}
 use lib.Dec.{leb}
 use lib.ListN.{length, get_or, take, drop}
 use Rattle.command.specs.declared.Refusal.TheVariants.{NotMergeable}
-use Rattle.command.specs.Outcomes.{refused, accepted}
 use Rattle.item.specs.declared.ItemRow.{ItemRow}
 use Rattle.item.specs.Rows.{item_row}
 use Rattle.nest.specs.Lists.{rows_from}
@@ -60,17 +60,17 @@ record Decided (rows : List ℕ) (n : ℕ) (numbers : List ℕ) : Type 0 where
   few : n ≤ 256
   are : numbers ≡ sources_from 0 (rows_from rows 0 end)
 
-settled_joined : (rs : List ItemRow) (s : Scan) (numbers : List ℕ) → scan_from 0 0 rs ≡ s → settled s rs ≡ accepted numbers
+settled_joined : (rs : List ItemRow) (s : Scan) (numbers : List ℕ) → scan_from 0 0 rs ≡ s → settled s rs ≡ Ok numbers
     → (m : ℕ) × (m < length rs) × (numbers ≡ sources_from 0 (take m rs))
 unfolding settled
 settled_joined rs Nowhere numbers e h = let z : ◌≡◌ {A = ℕ} 0 1 = cc in absurd (omega arith)
 settled_joined rs (At m c) numbers e h = (m, scan_inside rs m c e, go (leb 2 c && late_from true (drop (m + 1) rs)) h)
   where
-    go : (b : Bool) → cond b (accepted (sources_from 0 (take m rs))) (refused NotMergeable) ≡ accepted numbers → numbers ≡ sources_from 0 (take m rs)
+    go : (b : Bool) → cond b (Ok (sources_from 0 (take m rs))) (Err NotMergeable) ≡ Ok numbers → numbers ≡ sources_from 0 (take m rs)
     go true f = cc
     go false f = cc
 
-decided : (rows : List ℕ) (n : ℕ) (numbers : List ℕ) → decision rows n ≡ accepted numbers → Decided rows n numbers
+decided : (rows : List ℕ) (n : ℕ) (numbers : List ℕ) → decision rows n ≡ Ok numbers → Decided rows n numbers
 unfolding flat_ruling
 decided rows n numbers e =
     let p = decision_passed rows n numbers e in
@@ -91,7 +91,7 @@ at_of rows m n numbers l e i h =
     let s : SourceBelow rows (0 + m) (get_or numbers i 0) = rw e (source_at rows m 0 i (omega (arith, ap length e))) in
     record { below = omega arith; source = s.source }
 
-module _ (rows : List ℕ) (n : ℕ) (numbers : List ℕ) (e : decision rows n ≡ accepted numbers) where
+module _ (rows : List ℕ) (n : ℕ) (numbers : List ℕ) (e : decision rows n ≡ Ok numbers) where
   pub joined_few : length numbers ≤ 255
   joined_few = let d = decided rows n numbers e in omega (arith, few_of rows d.end numbers d.are)
 

@@ -1,5 +1,6 @@
 -- What a merge reads: of the item list the numbers of the joined rows alone, of the rows no entry past the row number; of a hidden row its kind, flag and depth, and of a visible
 -- row the mark too, but the place and count only of a source outside any group. Assumes nothing.
+use Rattle.std.specs.Prelude.{Ok, Err}
 use mathlib.Core.Path.{◌≡◌, refl, ap, ap₂, ◌∙◌}
 use mathlib.Core.Bool.{true}
 use mathlib.Core.List.{List, [], ◌∷◌, map}
@@ -9,7 +10,7 @@ use native.Mathlib.Omega.{arith}
 use lib.Ieee.{Float, nan}
 use lib.ListN.{length, get_or}
 use Rattle.item.specs.declared.ItemRow.{ItemRow}
-use Rattle.command.specs.Outcomes.{Outcome, refused, accepted, and_then}
+use Rattle.command.specs.Outcomes.{Outcome, and_then}
 use Rattle.item.specs.Rows.{item_row, is_visible, is_listed, entries_of}
 use Rattle.draw.specs.Items.{draw_source}
 use Rattle.draw.proofs.Read.{source_read}
@@ -41,8 +42,8 @@ unfolding draw_merge draw_joined
 merge_items rows n items items' long same = go (decision rows n) refl
   where
     go : (d : Outcome (List ℕ)) → decision rows n ≡ d → and_then d (draw_joined rows items') ≡ and_then d (draw_joined rows items)
-    go (refused r) e = refl
-    go (accepted numbers) e =
+    go (Err r) e = refl
+    go (Ok numbers) e =
         sources_read rows items items' numbers
         (λ i h. let r : ItemRow = item_row rows (get_or numbers i 0) in source_read r items items' long (same r (record { numbers = numbers; decided = e; index = i; inside = h; is = refl })))
 
@@ -60,8 +61,8 @@ unfolding draw_merge draw_joined
 same_merge rows rows' n items e same = go (decision rows n) refl ∙ ap (λ (d : Outcome (List ℕ)). and_then d (draw_joined rows' items)) e
   where
     go : (d : Outcome (List ℕ)) → decision rows n ≡ d → and_then d (draw_joined rows items) ≡ and_then d (draw_joined rows' items)
-    go (refused r) f = refl
-    go (accepted numbers) f =
+    go (Err r) f = refl
+    go (Ok numbers) f =
         ap (λ (rs : List ItemRow). draw_sources rs items)
         (rows_same rows rows' numbers
         (λ i h. let m : ℕ = get_or numbers i 0 in same m (joined_below rows n numbers f i h) (joined_source rows n numbers f i h)))

@@ -1,4 +1,5 @@
 -- Every number of a merge is an f32 where those that are read are. Assumes nothing.
+use Rattle.std.specs.Prelude.{Ok, Err}
 use Prim.Native.Nat.{ℕ, suc, ◌<◌}
 use native.Mathlib.Nat.{zero-lt-suc}
 use native.Mathlib.Omega.{arith}
@@ -8,7 +9,7 @@ use lib.Ieee.{Float}
 use lib.ListN.{length, get_or}
 use Rattle.command.specs.declared.PathCommand.{PathCommand}
 use Rattle.command.specs.Commands.{numbers_of}
-use Rattle.command.specs.Outcomes.{Outcome, refused, accepted, and_then, list_of}
+use Rattle.command.specs.Outcomes.{Outcome, and_then, list_of}
 use Rattle.command.proofs.Lists.{numbers_append}
 use Rattle.item.specs.declared.ItemRow.{ItemRow}
 use Rattle.item.specs.Rows.{item_row}
@@ -22,9 +23,9 @@ use Rattle.ieee.proofs.Each.{each_append}
 
 followed_single : (o p : Outcome (List PathCommand)) → AllSingle (numbers_of (list_of o)) → AllSingle (numbers_of (list_of p)) → AllSingle (numbers_of (list_of (followed_by o p)))
 unfolding followed_by
-followed_single (refused r) p O P = tt
-followed_single (accepted cs) (refused r) O P = tt
-followed_single (accepted cs) (accepted ds) O P = subst AllSingle (sym (numbers_append cs ds)) (each_append Single (numbers_of cs) (numbers_of ds) O P)
+followed_single (Err r) p O P = tt
+followed_single (Ok cs) (Err r) O P = tt
+followed_single (Ok cs) (Ok ds) O P = subst AllSingle (sym (numbers_append cs ds)) (each_append Single (numbers_of cs) (numbers_of ds) O P)
 
 sources_single : (rows : List ℕ) (items : List Float) (numbers : List ℕ) → ((i : ℕ) → i < length numbers → ReadSingle (item_row rows (get_or numbers i 0)) items)
     → AllSingle (numbers_of (list_of (draw_sources (map (item_row rows) numbers) items)))
@@ -39,5 +40,5 @@ unfolding draw_merge draw_joined
 merge_drawn_single rows n items at = go (decision rows n) refl
   where
     go : (d : Outcome (List ℕ)) → decision rows n ≡ d → AllSingle (numbers_of (list_of (and_then d (draw_joined rows items))))
-    go (refused r) e = tt
-    go (accepted numbers) e = sources_single rows items numbers (λ i h. at (item_row rows (get_or numbers i 0)) (record { numbers = numbers; decided = e; index = i; inside = h; is = refl }))
+    go (Err r) e = tt
+    go (Ok numbers) e = sources_single rows items numbers (λ i h. at (item_row rows (get_or numbers i 0)) (record { numbers = numbers; decided = e; index = i; inside = h; is = refl }))

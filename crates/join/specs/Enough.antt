@@ -1,6 +1,5 @@
 -- What is promised of a merge's need: that 11 is given by it, and that it is within the rooms of the sources, added up. Definitions only.
-use Rattle.std.specs.Prelude.{ℕ, ◌+◌, ◌≡◌, List, [], ◌∷◌, map, Float}
-use Rattle.command.specs.Outcomes.{accepted}
+use Rattle.std.specs.Prelude.{ℕ, ◌+◌, ◌≡◌, List, [], ◌∷◌, map, Float, Ok}
 use Rattle.command.specs.Buffers.{need_of, Within}
 use Rattle.item.specs.declared.ItemRow.{ItemRow}
 use Rattle.item.specs.Rows.{item_row}
@@ -19,5 +18,5 @@ sources_room (r ∷ rs) = ((row_room r).0 + (sources_room rs).0, (row_room r).1 
 -- never less than the merge writes
 abbrev pub MergeEnough : Type 0
 MergeEnough =
-    (rows : List ℕ) (n : ℕ) (items : List Float) (numbers : List ℕ) (need : ℕ × ℕ) → decision rows n ≡ accepted numbers
-    → need_of (draw_merge rows n items) ≡ accepted need → Within need (sources_room (map (item_row rows) numbers))
+    (rows : List ℕ) (n : ℕ) (items : List Float) (numbers : List ℕ) (need : ℕ × ℕ) → decision rows n ≡ Ok numbers
+    → need_of (draw_merge rows n items) ≡ Ok need → Within need (sources_room (map (item_row rows) numbers))

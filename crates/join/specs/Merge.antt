@@ -1,7 +1,7 @@
 -- What a merge answers, whatever it is given. Definitions only.
-use Rattle.std.specs.Prelude.{ℕ, List, [], ◌∷◌, ◌++◌, map, Float}
+use Rattle.std.specs.Prelude.{ℕ, List, [], ◌∷◌, ◌++◌, map, Float, Ok}
 use Rattle.command.specs.declared.PathCommand.{PathCommand}
-use Rattle.command.specs.Outcomes.{Outcome, accepted, mapped, and_then}
+use Rattle.command.specs.Outcomes.{Outcome, mapped, and_then}
 use Rattle.item.specs.declared.ItemRow.{ItemRow}
 use Rattle.item.specs.Rows.{item_row}
 use Rattle.draw.specs.Items.{draw_source}
@@ -14,7 +14,7 @@ followed_by o p = and_then o (λ (cs : List PathCommand). mapped (λ (ds : List 
 -- the sources judged by 5, 1, 2, 12, 3 and drawn, one after another
 unfoldable pub draw_sources : List ItemRow → List Float → Outcome (List PathCommand)
 unfolding followed_by draw_source
-draw_sources [] items = accepted []
+draw_sources [] items = Ok []
 draw_sources (r ∷ rs) items = followed_by (draw_source r items) (draw_sources rs items)
 
 -- the rows of these numbers, drawn

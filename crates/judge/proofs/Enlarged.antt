@@ -1,4 +1,5 @@
 -- Judging a command list whose numbers are on a grid, and the same list enlarged by a power of two: both have one answer, and a command's numbers are multiplied. Assumes nothing.
+use Rattle.std.specs.Prelude.{Ok, Err}
 use mathlib.Core.Path.{◌≡◌, refl, sym, ap, ap₂, ◌∙◌}
 use mathlib.Core.Bool.{Bool, true, false, cond, not, ◌&&◌}
 use mathlib.Core.List.{List, [], ◌∷◌, map}
@@ -12,7 +13,7 @@ use Rattle.ieee.specs.Grid.{scale}
 use Rattle.command.specs.declared.PathCommand.{PathCommand}
 use Rattle.command.specs.declared.Refusal.TheVariants.{TooMany, OutOfBounds}
 use Rattle.command.specs.Commands.{codes_of, numbers_of, command_limit}
-use Rattle.command.specs.Outcomes.{Outcome, refused, accepted, number_of, mapped, and_then, list_of, Check, ◌gives◌, checked}
+use Rattle.command.specs.Outcomes.{Outcome, number_of, mapped, and_then, list_of, Check, ◌gives◌, checked}
 use Rattle.command.specs.Enlarged.{AllOn, Twins}
 use Rattle.command.proofs.Lists.{codes_length}
 use Rattle.command.proofs.Enlarged.{grid_within, twins_codes, twins_numbers, twins_length, twins_grid}
@@ -31,10 +32,10 @@ abbrev pub length_check : ℕ → List Check
 length_check n = (ltb 262144 n gives TooMany) ∷ []
 
 -- read, it is its commands
-pub grid_read : (q b : ℕ) (cs : List PathCommand) → b ≤ 22 → AllOn q b (numbers_of cs) → read_list (codes_of cs) (numbers_of cs) ≡ accepted cs
+pub grid_read : (q b : ℕ) (cs : List PathCommand) → b ≤ 22 → AllOn q b (numbers_of cs) → read_list (codes_of cs) (numbers_of cs) ≡ Ok cs
 grid_read q b cs B X = commands_read_lem cs (all_within_lem q b (numbers_of cs) B X)
 
-judged : (q b : ℕ) (cs : List PathCommand) → b ≤ 22 → AllOn q b (numbers_of cs) → judge_list (codes_of cs) (numbers_of cs) ≡ checked (length_check (length cs)) (accepted cs)
+judged : (q b : ℕ) (cs : List PathCommand) → b ≤ 22 → AllOn q b (numbers_of cs) → judge_list (codes_of cs) (numbers_of cs) ≡ checked (length_check (length cs)) (Ok cs)
 unfolding judge_list
 judged q b cs B X = ap₂ (λ (n : ℕ) (o : Outcome (List PathCommand)). checked (length_check n) o) (codes_length cs) (grid_read q b cs B X)
 
@@ -44,8 +45,8 @@ asked_alike : {A : Type 0} (a : A) (j n : ℕ) (cs cs' : List PathCommand)
 unfolding asked_for
 asked_alike a j n cs cs' = go (ltb j n)
   where
-    go : (there : Bool) → mapped (λ (ps : List PathCommand). a) (checked ((not there gives OutOfBounds) ∷ []) (accepted cs'))
-        ≡ mapped (λ (ps : List PathCommand). a) (checked ((not there gives OutOfBounds) ∷ []) (accepted cs))
+    go : (there : Bool) → mapped (λ (ps : List PathCommand). a) (checked ((not there gives OutOfBounds) ∷ []) (Ok cs'))
+        ≡ mapped (λ (ps : List PathCommand). a) (checked ((not there gives OutOfBounds) ∷ []) (Ok cs))
     go true = refl
     go false = refl
 
@@ -77,18 +78,18 @@ module _ {k q b : ℕ} {cs cs' : List PathCommand} (t : Twins k q b cs cs') wher
       ∙ take_map (scale k) n (drop m (numbers_of cs))
 
   module _ (B : b + k ≤ 22) where
-    pub judged_first : judge_list (codes_of cs) (numbers_of cs) ≡ checked (length_check (length cs)) (accepted cs)
+    pub judged_first : judge_list (codes_of cs) (numbers_of cs) ≡ checked (length_check (length cs)) (Ok cs)
     judged_first = judged q b cs (omega arith) t.grid
 
-    pub judged_enlarged : judge_list (codes_of cs') (numbers_of cs') ≡ checked (length_check (length cs)) (accepted cs')
-    judged_enlarged = judged q (b + k) cs' B (twins_grid t) ∙ ap (λ (n : ℕ). checked (length_check n) (accepted cs')) (twins_length t)
+    pub judged_enlarged : judge_list (codes_of cs') (numbers_of cs') ≡ checked (length_check (length cs)) (Ok cs')
+    judged_enlarged = judged q (b + k) cs' B (twins_grid t) ∙ ap (λ (n : ℕ). checked (length_check n) (Ok cs')) (twins_length t)
 
     -- what is the same of the refusal and of the commands is the same of the judged lists
-    pub judge_alike : {A : Type 0} (f g : Outcome (List PathCommand) → A) → f (refused TooMany) ≡ g (refused TooMany) → f (accepted cs') ≡ g (accepted cs)
+    pub judge_alike : {A : Type 0} (f g : Outcome (List PathCommand) → A) → f (Err TooMany) ≡ g (Err TooMany) → f (Ok cs') ≡ g (Ok cs)
         → f (judge_list (codes_of cs') (numbers_of cs')) ≡ g (judge_list (codes_of cs) (numbers_of cs))
     judge_alike f g r d = ap f judged_enlarged ∙ go (ltb 262144 (length cs)) ∙ sym (ap g judged_first)
       where
-        go : (many : Bool) → f (cond many (refused TooMany) (accepted cs')) ≡ g (cond many (refused TooMany) (accepted cs))
+        go : (many : Bool) → f (cond many (Err TooMany) (Ok cs')) ≡ g (cond many (Err TooMany) (Ok cs))
         go true = r
         go false = d
 
@@ -108,8 +109,8 @@ module _ {k q b : ℕ} {cs cs' : List PathCommand} (t : Twins k q b cs cs') wher
       fault_twins = sym (number (judge_command (codes_of cs') (numbers_of cs') j)) ∙ ap number_of (told_alike tt) ∙ number (judge_command (codes_of cs) (numbers_of cs) j)
         where
           number : (o : Outcome (List PathCommand)) → number_of (mapped (λ (ps : List PathCommand). tt {0}) o) ≡ number_of o
-          number (refused r) = refl
-          number (accepted ps) = refl
+          number (Err r) = refl
+          number (Ok ps) = refl
 
       pub part_twins : command_part (codes_of cs') (numbers_of cs') j ≡ map (scale k) (command_part (codes_of cs) (numbers_of cs) j)
       unfolding command_part
@@ -121,8 +122,8 @@ module _ {k q b : ℕ} {cs cs' : List PathCommand} (t : Twins k q b cs cs') wher
         where
           go : (v : List Float) (o : Outcome (List PathCommand))
               → list_of (mapped (λ (ps : List PathCommand). map (scale k) v) o) ≡ map (scale k) (list_of (mapped (λ (ps : List PathCommand). v) o))
-          go v (refused r) = refl
-          go v (accepted ps) = refl
+          go v (Err r) = refl
+          go v (Ok ps) = refl
 
       pub found_twins : find_command (codes_of cs') (numbers_of cs') j ≡ find_command (codes_of cs) (numbers_of cs) j
       unfolding find_command

@@ -1,11 +1,12 @@
 -- The place and the count that are told of a command's numbers cut the part that is handed back, and the number is the same. Assumes nothing.
+use Rattle.std.specs.Prelude.{Ok, Err}
 use mathlib.Core.Path.{◌≡◌, refl}
 use mathlib.Core.List.{List}
 use Prim.Native.Nat.{ℕ}
 use lib.Ieee.{Float}
 use lib.ListN.{get_or, take, drop}
 use Rattle.command.specs.declared.PathCommand.{PathCommand}
-use Rattle.command.specs.Outcomes.{Outcome, refused, accepted, number_of, mapped, list_of}
+use Rattle.command.specs.Outcomes.{Outcome, number_of, mapped, list_of}
 use Rattle.reader.specs.Read.{size_of_code}
 use Rattle.judge.specs.Lists.{place_of, judge_command, find_command, command_fault, command_part}
 
@@ -23,13 +24,13 @@ module _ (codes : List ℕ) (numbers : List Float) (k : ℕ) where
     where
       go : (o : Outcome (List PathCommand)) → part_at numbers (mapped found o)
           ≡ list_of (mapped (λ (cs : List PathCommand). take (size_of_code (get_or codes k 3)) (drop (place_of k codes) numbers)) o)
-      go (refused r) = refl
-      go (accepted cs) = refl
+      go (Err r) = refl
+      go (Ok cs) = refl
 
   pub found_fault : number_of (find_command codes numbers k) ≡ command_fault codes numbers k
   unfolding find_command command_fault
   found_fault = go (judge_command codes numbers k)
     where
       go : (o : Outcome (List PathCommand)) → number_of (mapped found o) ≡ number_of o
-      go (refused r) = refl
-      go (accepted cs) = refl
+      go (Err r) = refl
+      go (Ok cs) = refl

@@ -1,6 +1,7 @@
 -- A walk down a command list, a command at a time, that carries a state: what is left, folded from the state as it is, gives what the whole gives from
 -- the first state.
 -- Judging, which goes to the end of a list and carries nothing, stands on these laws. Assumes nothing.
+use Rattle.std.specs.Prelude.{Ok, Err}
 use mathlib.Core.Path.{◌≡◌, refl, sym, ap, ◌∙◌}
 use mathlib.Core.List.{List, [], ◌∷◌}
 use Prim.Native.Nat.{ℕ, suc, ◌+◌, ◌≤◌, ◌<◌, zero-le}
@@ -13,19 +14,17 @@ use borrow.Author.Tests.{eq-eqb, ne_eqb, lt-ltb, le-ltb}
 use Rattle.command.specs.declared.PathCommand.{PathCommand}
 use Rattle.command.specs.declared.Refusal.{Refusal}
 use Rattle.command.specs.declared.Refusal.TheVariants.{TooMany, OutOfBounds}
-use Rattle.command.specs.Outcomes.{Outcome, refused, accepted, mapped, and_then}
-use Rattle.reader.specs.declared.Read.{Read}
-use Rattle.reader.specs.declared.Read.TheVariants.{Refused, Command}
-use Rattle.reader.specs.Read.{size_of_code, read_command, read_of, read_from}
+use Rattle.command.specs.Outcomes.{Outcome, mapped, and_then}
+use Rattle.reader.specs.Read.{size_of_code, read_command, read_from}
 use Rattle.reader.proofs.Commands.{Taken, read_refused, read_taken}
 use Rattle.judge.specs.Lists.{in_front, read_list, judge_list}
 
 -- after the last command
-pub left_over : (u : List Float) → (length u ≡ 0 → ⊥) → read_list [] u ≡ refused OutOfBounds
+pub left_over : (u : List Float) → (length u ≡ 0 → ⊥) → read_list [] u ≡ Err OutOfBounds
 unfolding read_list
 left_over u e = rw (ne_eqb (length u) 0 e)
 
-pub none_over : (u : List Float) → length u ≡ 0 → read_list [] u ≡ accepted []
+pub none_over : (u : List Float) → length u ≡ 0 → read_list [] u ≡ Ok []
 unfolding read_list
 none_over u e = rw (eq-eqb (length u) 0 e)
 
@@ -38,7 +37,7 @@ module _ {S B : Type 0} (fold : S → List PathCommand → B) (codes : List ℕ)
   pub walk_start : Left first 0 0
   walk_start = record { inside = zero-le; whole = refl }
 
-  pub list_many : 262144 < length codes → refused TooMany ≡ mapped (fold first) (judge_list codes numbers)
+  pub list_many : 262144 < length codes → Err TooMany ≡ mapped (fold first) (judge_list codes numbers)
   unfolding judge_list
   list_many a = rw (lt-ltb 262144 (length codes) a)
 
@@ -50,7 +49,7 @@ module _ {S B : Type 0} (fold : S → List PathCommand → B) (codes : List ℕ)
     abbrev v : List Float
     v = drop place numbers
 
-    module _ (h : i < length codes) (read : Read) (read_is : read_of read ≡ read_from (get_or codes i 0) numbers place) where
+    module _ (h : i < length codes) (read : Outcome (PathCommand × ℕ)) (read_is : read ≡ read_from (get_or codes i 0) numbers place) where
       abbrev c : ℕ
       c = get_or codes i 0
 
@@ -61,13 +60,13 @@ module _ {S B : Type 0} (fold : S → List PathCommand → B) (codes : List ℕ)
       unfolding read_list
       here = ap (λ (l : List ℕ). mapped (fold now) (read_list l v)) (sym (drop-cons codes i 0 h)) ∙ left.whole
 
-      pub walk_refused : length codes ≤ 262144 → (r : Refusal) → read ≡ Refused r → refused r ≡ mapped (fold first) (judge_list codes numbers)
+      pub walk_refused : length codes ≤ 262144 → (r : Refusal) → read ≡ Err r → Err r ≡ mapped (fold first) (judge_list codes numbers)
       walk_refused few r e =
           sym (ap (λ (o : Outcome PathCommand). mapped (fold now) (and_then o (in_front rest))) (read_refused c numbers place read read_is r e))
           ∙ here
           ∙ list_few few
 
-      module _ (p : PathCommand) (next : ℕ) (e : read ≡ Command p next) where
+      module _ (p : PathCommand) (next : ℕ) (e : read ≡ Ok (p, next)) where
         taken : Taken c numbers place p next
         taken = read_taken c numbers place read read_is left.inside p next e
 
@@ -83,19 +82,19 @@ module _ {S B : Type 0} (fold : S → List PathCommand → B) (codes : List ℕ)
             })
           where
             one : (o : Outcome (List PathCommand)) → mapped (fold now) (in_front o p) ≡ mapped (fold then) o
-            one (refused r) = unfold in_front in refl
-            one (accepted cs) = unfold in_front in (ap accepted (sym (on_it cs)))
+            one (Err r) = unfold in_front in refl
+            one (Ok cs) = unfold in_front in (ap Ok (sym (on_it cs)))
 
     module _ (few : length codes ≤ 262144) (h : length codes ≤ i) where
       ended : mapped (fold now) (read_list [] v) ≡ mapped (fold first) (judge_list codes numbers)
       ended = ap (λ (l : List ℕ). mapped (fold now) (read_list l v)) (sym (drop_of_length-le codes {i = i} h)) ∙ left.whole ∙ list_few few
 
-      pub walk_over : place < length numbers → refused OutOfBounds ≡ mapped (fold first) (judge_list codes numbers)
+      pub walk_over : place < length numbers → Err OutOfBounds ≡ mapped (fold first) (judge_list codes numbers)
       walk_over a =
           let e : length v ≡ 0 → ⊥ = λ z. omega (arith, length-drop place numbers) in
           sym (ap (mapped (fold now)) (left_over v e)) ∙ ended
 
-      pub walk_end : length numbers ≤ place → accepted (fold now []) ≡ mapped (fold first) (judge_list codes numbers)
+      pub walk_end : length numbers ≤ place → Ok (fold now []) ≡ mapped (fold first) (judge_list codes numbers)
       walk_end a =
           let e : length v ≡ 0 = omega (arith, length-drop place numbers) in
           sym (ap (mapped (fold now)) (none_over v e)) ∙ ended

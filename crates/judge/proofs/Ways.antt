@@ -1,5 +1,7 @@
 -- What each way out of a function of this crate owes, as the code meets it: a premise for each test and for each call's result.
 -- Assumes nothing.
+use Rattle.std.specs.Prelude.{Ok, Err}
+use Rattle.std.specs.Prelude.{Ok, Err}
 use mathlib.Core.Path.{◌≡◌, refl, sym, ap, ◌∙◌}
 use mathlib.Core.Bool.{Bool, true, false, not}
 use mathlib.Core.List.{List, [], ◌∷◌}
@@ -10,21 +12,16 @@ use native.Mathlib.Omega.{arith}
 use lib.Dec.{ltb}
 use lib.Ieee.{Float}
 use lib.ListN.{length, get_or, take, drop, length-drop}
+use lib.Seq.{length-take-le}
 use borrow.Author.Tests.{lt-ltb, le-ltb, ltb-false, ltb-true, not-false}
 use Rattle.command.specs.declared.PathCommand.{PathCommand}
 use Rattle.command.specs.declared.Refusal.{Refusal}
 use Rattle.command.specs.declared.Refusal.TheVariants.{TooMany, OutOfBounds}
-use Rattle.command.specs.declared.Counts.{Counts}
-use Rattle.command.specs.declared.Counts.TheVariants.{Refused, Of}
-use Rattle.command.specs.Outcomes.{Outcome, refused, accepted, number_of, mapped, and_then, value_or, list_of, ◌gives◌, checked, counts_of, counts_number}
+use Rattle.command.specs.Outcomes.{Outcome, number_of, mapped, and_then, value_or, list_of, ◌gives◌, checked}
 use Rattle.command.proofs.Outcomes.{refused_accepted, checks_passed}
-use Rattle.reader.specs.declared.Read.{Read}
-use Rattle.reader.specs.declared.Read.TheVariants as read
-use Rattle.reader.specs.Read.{size_of_code, read_command, read_of, read_from}
+use Rattle.reader.specs.Read.{size_of_code, read_command, read_from}
 use Rattle.reader.proofs.Commands.{size_most, accepted_read}
-use Rattle.judge.specs.declared.Judged.{Judged}
-use Rattle.judge.specs.declared.Judged.TheVariants.{Fault, Sound}
-use Rattle.judge.specs.Lists.{in_front, read_list, judge_list, judged_of, without_commands, place_of, asked_for, judge_command, find_command, command_fault, command_part}
+use Rattle.judge.specs.Lists.{in_front, read_list, judge_list, without_commands, place_of, asked_for, judge_command, find_command, command_fault, command_part}
 use Rattle.judge.proofs.Walk.{Left, walk_start, list_many, walk_refused, walk_next, walk_over, walk_end}
 
 -- ---- judge: a walk with nothing to carry
@@ -32,7 +29,7 @@ abbrev pub nothing : Unit {0} → List PathCommand → Unit {0}
 nothing s cs = tt
 
 module _ (codes : List ℕ) (numbers : List Float) where
-  pub judge_many : 262144 < length codes → refused TooMany ≡ without_commands (judge_list codes numbers)
+  pub judge_many : 262144 < length codes → Err TooMany ≡ without_commands (judge_list codes numbers)
   judge_many a = list_many nothing codes numbers tt a
 
   pub judge_start : Left nothing codes numbers tt tt 0 0
@@ -42,18 +39,18 @@ module _ (codes : List ℕ) (numbers : List Float) where
     pub judge_inside : place ≤ length numbers
     judge_inside = left.inside
 
-    module _ (h : i < length codes) (r : Read) (r_is : read_of r ≡ read_from (get_or codes i 0) numbers place) where
-      pub judge_refused : length codes ≤ 262144 → (refusal : Refusal) → r ≡ read.Refused refusal → refused refusal ≡ without_commands (judge_list codes numbers)
+    module _ (h : i < length codes) (r : Outcome (PathCommand × ℕ)) (r_is : r ≡ read_from (get_or codes i 0) numbers place) where
+      pub judge_refused : length codes ≤ 262144 → (refusal : Refusal) → r ≡ Err refusal → Err refusal ≡ without_commands (judge_list codes numbers)
       judge_refused few refusal e = walk_refused nothing codes numbers tt tt i place left h r r_is few refusal e
 
-      pub judge_next : (p : PathCommand) (next : ℕ) → r ≡ read.Command p next → Left nothing codes numbers tt tt (i + 1) next
+      pub judge_next : (p : PathCommand) (next : ℕ) → r ≡ Ok (p, next) → Left nothing codes numbers tt tt (i + 1) next
       judge_next p next e = walk_next nothing codes numbers tt tt i place left h r r_is p next e tt (λ cs. refl) (i + 1) refl
 
     module _ (few : length codes ≤ 262144) (h : length codes ≤ i) where
-      pub judge_over : place < length numbers → refused OutOfBounds ≡ without_commands (judge_list codes numbers)
+      pub judge_over : place < length numbers → Err OutOfBounds ≡ without_commands (judge_list codes numbers)
       judge_over a = walk_over nothing codes numbers tt tt i place left few h a
 
-      pub judge_sound : length numbers ≤ place → accepted tt ≡ without_commands (judge_list codes numbers)
+      pub judge_sound : length numbers ≤ place → Ok tt ≡ without_commands (judge_list codes numbers)
       judge_sound a = walk_end nothing codes numbers tt tt i place left few h a
 
 pub ruleset judging = (judge_many, judge_start, judge_inside, judge_refused, judge_next, judge_over, judge_sound)
@@ -61,32 +58,32 @@ pub ruleset judging = (judge_many, judge_start, judge_inside, judge_refused, jud
 -- ---- judge_command
 -- `asked_for` reads no command of the list
 asked : (k count : ℕ) (o : Outcome (List PathCommand))
-    → and_then (without_commands o) (λ (u : Unit {0}). checked ((not (ltb k count) gives OutOfBounds) ∷ []) (accepted tt)) ≡ without_commands (and_then o (asked_for k count))
+    → and_then (without_commands o) (λ (u : Unit {0}). checked ((not (ltb k count) gives OutOfBounds) ∷ []) (Ok tt)) ≡ without_commands (and_then o (asked_for k count))
 unfolding asked_for
-asked k count (refused r) = refl
-asked k count (accepted cs) = go (ltb k count)
+asked k count (Err r) = refl
+asked k count (Ok cs) = go (ltb k count)
   where
-    go : (b : Bool) → checked ((not b gives OutOfBounds) ∷ []) (accepted (tt {0})) ≡ without_commands (checked ((not b gives OutOfBounds) ∷ []) (accepted cs))
+    go : (b : Bool) → checked ((not b gives OutOfBounds) ∷ []) (Ok (tt {0})) ≡ without_commands (checked ((not b gives OutOfBounds) ∷ []) (Ok cs))
     go true = refl
     go false = refl
 
-module _ (codes : List ℕ) (numbers : List Float) (k : ℕ) (j : Judged) (j_is : judged_of j ≡ without_commands (judge_list codes numbers)) where
+module _ (codes : List ℕ) (numbers : List Float) (k : ℕ) (j : Outcome (Unit {0})) (j_is : j ≡ without_commands (judge_list codes numbers)) where
   abbrev asks : Outcome (Unit {0}) → Outcome (Unit {0})
-  asks o = and_then o (λ (u : Unit {0}). checked ((not (ltb k (length codes)) gives OutOfBounds) ∷ []) (accepted tt))
+  asks o = and_then o (λ (u : Unit {0}). checked ((not (ltb k (length codes)) gives OutOfBounds) ∷ []) (Ok tt))
 
-  pub asked_fault : (r : Refusal) → j ≡ Fault r → refused r ≡ without_commands (judge_command codes numbers k)
+  pub asked_fault : (r : Refusal) → j ≡ Err r → Err r ≡ without_commands (judge_command codes numbers k)
   unfolding judge_command
-  asked_fault r e = ap (λ (x : Judged). asks (judged_of x)) (sym e) ∙ ap asks j_is ∙ asked k (length codes) (judge_list codes numbers)
+  asked_fault r e = ap (λ (x : Outcome (Unit {0})). asks (x)) (sym e) ∙ ap asks j_is ∙ asked k (length codes) (judge_list codes numbers)
 
-  module _ (e : j ≡ Sound) where
-    sound : asks (accepted tt) ≡ without_commands (judge_command codes numbers k)
+  module _ (e : j ≡ Ok tt) where
+    sound : asks (Ok tt) ≡ without_commands (judge_command codes numbers k)
     unfolding judge_command
-    sound = ap (λ (x : Judged). asks (judged_of x)) (sym e) ∙ ap asks j_is ∙ asked k (length codes) (judge_list codes numbers)
+    sound = ap (λ (x : Outcome (Unit {0})). asks (x)) (sym e) ∙ ap asks j_is ∙ asked k (length codes) (judge_list codes numbers)
 
-    pub asked_sound : k < length codes → accepted tt ≡ without_commands (judge_command codes numbers k)
+    pub asked_sound : k < length codes → Ok tt ≡ without_commands (judge_command codes numbers k)
     asked_sound h = rw (lt-ltb k (length codes) h) at sound
 
-    pub asked_missing : length codes ≤ k → refused OutOfBounds ≡ without_commands (judge_command codes numbers k)
+    pub asked_missing : length codes ≤ k → Err OutOfBounds ≡ without_commands (judge_command codes numbers k)
     asked_missing h = rw (le-ltb k (length codes) h) at sound
 
 pub ruleset asking = (asked_fault, asked_sound, asked_missing)
@@ -109,46 +106,52 @@ module _ (codes : List ℕ) where
   unfolding place_of
   place_start = refl
 
-  module _ (i k : ℕ) (inside : k ≤ length codes) (place : ℕ) (place_is : place ≡ place_of i codes) where
-    pub place_end : k ≤ i → i ≤ k → place ≡ place_of k codes
-    place_end a b = let e : i ≡ k = omega arith in place_is ∙ ap (λ (n : ℕ). place_of n codes) e
+  module _ (i place : ℕ) (place_is : place ≡ place_of i codes) (h : i < length codes) (n : ℕ) (n_is : n ≡ size_of_code (get_or codes i 0)) where
+    pub place_next : place + n ≡ place_of (i + 1) codes
+    place_next = rw (add-one, place_is, n_is) (place_suc codes i h)
 
-    module _ (h : i < k) (n : ℕ) (n_is : n ≡ size_of_code (get_or codes i 0)) where
-      pub place_next : place + n ≡ place_of (i + 1) codes
-      place_next = rw (add-one, place_is, n_is) (place_suc codes i (omega arith))
+    pub place_room : length codes ≤ 262144 → place + n < 18446744073709551616
+    place_room few = omega (arith, place_most i codes, size_most (get_or codes i 0))
 
-      pub place_room : length codes ≤ 262144 → place + n < 18446744073709551616
-      place_room few = omega (arith, place_most i codes, size_most (get_or codes i 0))
+-- the first k codes by themselves have as many numbers
+place_front : (k : ℕ) (codes : List ℕ) → place_of k (take k codes) ≡ place_of k codes
+unfolding place_of
+place_front zero codes = refl
+place_front (suc k) [] = refl
+place_front (suc k) (c ∷ cs) = ap (λ (n : ℕ). size_of_code c + n) (place_front k cs)
 
-pub ruleset places = (place_start, place_end, place_next, place_room)
+pub place_taken : (codes : List ℕ) (k place : ℕ) → place ≡ place_of (length (take k codes)) (take k codes) → k ≤ length codes → place ≡ place_of k codes
+place_taken codes k place e h = e ∙ ap (λ (n : ℕ). place_of n (take k codes)) (length-take-le k codes h) ∙ place_front k codes
+
+pub ruleset places = (place_start, place_next, place_room, place_taken)
 
 -- ---- accepted lists
 -- the first command of an accepted list is read, and so are the rest
 pub record Front (c : ℕ) (cs : List ℕ) (v : List Float) (ps : List PathCommand) : Type 0 where
   pub command : PathCommand
   pub rest : List PathCommand
-  pub read_is : read_command c v ≡ accepted command
-  pub rest_is : read_list cs (drop (size_of_code c) v) ≡ accepted rest
+  pub read_is : read_command c v ≡ Ok command
+  pub rest_is : read_list cs (drop (size_of_code c) v) ≡ Ok rest
   pub is : ps ≡ command ∷ rest
 
-pub front : (c : ℕ) (cs : List ℕ) (v : List Float) (ps : List PathCommand) → read_list (c ∷ cs) v ≡ accepted ps → Front c cs v ps
+pub front : (c : ℕ) (cs : List ℕ) (v : List Float) (ps : List PathCommand) → read_list (c ∷ cs) v ≡ Ok ps → Front c cs v ps
 unfolding read_list in_front
 front c cs v ps e = go (read_command c v) refl (read_list cs (drop (size_of_code c) v)) refl e
   where
-    go : (o : Outcome PathCommand) → read_command c v ≡ o → (q : Outcome (List PathCommand)) → read_list cs (drop (size_of_code c) v) ≡ q → and_then o (in_front q) ≡ accepted ps → Front c cs v ps
-    go (refused r) p q s e = refused_accepted r ps e
-    go (accepted x) p (refused r) s e = refused_accepted r ps e
-    go (accepted x) p (accepted xs) s e = record { command = x; rest = xs; read_is = p; rest_is = s; is = sym (ap list_of e) }
+    go : (o : Outcome PathCommand) → read_command c v ≡ o → (q : Outcome (List PathCommand)) → read_list cs (drop (size_of_code c) v) ≡ q → and_then o (in_front q) ≡ Ok ps → Front c cs v ps
+    go (Err r) p q s e = refused_accepted r ps e
+    go (Ok x) p (Err r) s e = refused_accepted r ps e
+    go (Ok x) p (Ok xs) s e = record { command = x; rest = xs; read_is = p; rest_is = s; is = sym (ap list_of e) }
 
 -- an accepted list is not too long, so judging it is reading it
-pub judged_read : (codes : List ℕ) (v : List Float) (ps : List PathCommand) → judge_list codes v ≡ accepted ps → (length codes ≤ 262144) × (read_list codes v ≡ accepted ps)
+pub judged_read : (codes : List ℕ) (v : List Float) (ps : List PathCommand) → judge_list codes v ≡ Ok ps → (length codes ≤ 262144) × (read_list codes v ≡ Ok ps)
 unfolding judge_list
 judged_read codes v ps e =
     let p = checks_passed ((ltb 262144 (length codes) gives TooMany) ∷ []) (read_list codes v) ps e in
     (ltb-false 262144 (length codes) p.0.0, p.1)
 
 -- in an accepted list the numbers of each command are inside
-accepted_inside : (codes : List ℕ) (v : List Float) (ps : List PathCommand) (k d : ℕ) → read_list codes v ≡ accepted ps → k < length codes
+accepted_inside : (codes : List ℕ) (v : List Float) (ps : List PathCommand) (k d : ℕ) → read_list codes v ≡ Ok ps → k < length codes
     → place_of k codes + size_of_code (get_or codes k d) ≤ length v
 unfolding place_of
 accepted_inside [] v ps k d e h = absurd (omega arith)
@@ -174,18 +177,18 @@ record Answer (codes : List ℕ) (numbers : List Float) (k : ℕ) : Type 0 where
   few : length codes ≤ 262144
   there : k < length codes
   commands : List PathCommand
-  is_read : read_list codes numbers ≡ accepted commands
-  is : judge_command codes numbers k ≡ accepted commands
+  is_read : read_list codes numbers ≡ Ok commands
+  is : judge_command codes numbers k ≡ Ok commands
 
-answer_of : (codes : List ℕ) (numbers : List Float) (k : ℕ) (ps : List PathCommand) → judge_command codes numbers k ≡ accepted ps → Answer codes numbers k
+answer_of : (codes : List ℕ) (numbers : List Float) (k : ℕ) (ps : List PathCommand) → judge_command codes numbers k ≡ Ok ps → Answer codes numbers k
 unfolding judge_command asked_for
 answer_of codes numbers k ps e = go (judge_list codes numbers) refl e
   where
-    go : (o : Outcome (List PathCommand)) → judge_list codes numbers ≡ o → and_then o (asked_for k (length codes)) ≡ accepted ps → Answer codes numbers k
-    go (refused r) p e = refused_accepted r ps e
-    go (accepted cs) p e =
+    go : (o : Outcome (List PathCommand)) → judge_list codes numbers ≡ o → and_then o (asked_for k (length codes)) ≡ Ok ps → Answer codes numbers k
+    go (Err r) p e = refused_accepted r ps e
+    go (Ok cs) p e =
         let s = judged_read codes numbers cs p in
-        let t = checks_passed ((not (ltb k (length codes)) gives OutOfBounds) ∷ []) (accepted cs) ps e in
+        let t = checks_passed ((not (ltb k (length codes)) gives OutOfBounds) ∷ []) (Ok cs) ps e in
         record {
           few = s.0;
           there = ltb-true k (length codes) (not-false (ltb k (length codes)) t.0.0);
@@ -199,22 +202,22 @@ answer_of codes numbers k ps e = go (judge_list codes numbers) refl e
 abbrev found : List ℕ → ℕ → List PathCommand → ℕ × ℕ
 found codes k cs = (place_of k codes, size_of_code (get_or codes k 3))
 
-module _ (codes : List ℕ) (numbers : List Float) (k : ℕ) (j : Judged) (j_is : judged_of j ≡ without_commands (judge_command codes numbers k)) where
-  pub find_refused : (r : Refusal) → j ≡ Fault r → refused r ≡ find_command codes numbers k
+module _ (codes : List ℕ) (numbers : List Float) (k : ℕ) (j : Outcome (Unit {0})) (j_is : j ≡ without_commands (judge_command codes numbers k)) where
+  pub find_refused : (r : Refusal) → j ≡ Err r → Err r ≡ find_command codes numbers k
   unfolding find_command
-  find_refused r e = go (judge_command codes numbers k) (ap judged_of (sym e) ∙ j_is)
+  find_refused r e = go (judge_command codes numbers k) ((sym e) ∙ j_is)
     where
-      go : (o : Outcome (List PathCommand)) → refused r ≡ without_commands o → refused r ≡ mapped (found codes k) o
-      go (refused q) e = cc
-      go (accepted cs) e = refused_accepted r tt e
+      go : (o : Outcome (List PathCommand)) → Err r ≡ without_commands o → Err r ≡ mapped (found codes k) o
+      go (Err q) e = cc
+      go (Ok cs) e = refused_accepted r tt e
 
-  module _ (e : j ≡ Sound) where
+  module _ (e : j ≡ Ok tt) where
     answer : Answer codes numbers k
-    answer = go (judge_command codes numbers k) refl (ap judged_of (sym e) ∙ j_is)
+    answer = go (judge_command codes numbers k) refl ((sym e) ∙ j_is)
       where
-        go : (o : Outcome (List PathCommand)) → judge_command codes numbers k ≡ o → accepted tt ≡ without_commands o → Answer codes numbers k
-        go (refused q) p e = refused_accepted q tt (sym e)
-        go (accepted cs) p e = answer_of codes numbers k cs p
+        go : (o : Outcome (List PathCommand)) → judge_command codes numbers k ≡ o → Ok tt ≡ without_commands o → Answer codes numbers k
+        go (Err q) p e = refused_accepted q tt (sym e)
+        go (Ok cs) p e = answer_of codes numbers k cs p
 
     pub command_few : length codes ≤ 262144
     command_few = answer.few
@@ -225,41 +228,41 @@ module _ (codes : List ℕ) (numbers : List Float) (k : ℕ) (j : Judged) (j_is 
     pub command_inside : k ≤ length codes
     command_inside = let h = command_there in omega arith
 
-    pub find_at : (place n : ℕ) → place ≡ place_of k codes → n ≡ size_of_code (get_or codes k 0) → counts_of (Of place n) ≡ find_command codes numbers k
+    pub find_at : (place n : ℕ) → place ≡ place_of k codes → n ≡ size_of_code (get_or codes k 0) → (Ok (place, n)) ≡ find_command codes numbers k
     unfolding find_command
     find_at place n place_is n_is =
-        (λ i. accepted (place_is i, (n_is ∙ ap size_of_code (get_d_any codes k 0 3 command_there)) i))
+        (λ i. Ok (place_is i, (n_is ∙ ap size_of_code (get_d_any codes k 0 3 command_there)) i))
         ∙ ap (mapped (found codes k)) (sym answer.is)
 
 pub ruleset finding = (find_refused, command_few, command_there, command_inside, find_at)
 
 -- ---- command_fault, command_part
-module _ (codes : List ℕ) (numbers : List Float) (k : ℕ) (f : Counts) (f_is : counts_of f ≡ find_command codes numbers k) where
-  pub fault_number : (n : ℕ) → n ≡ counts_number f → n ≡ command_fault codes numbers k
+module _ (codes : List ℕ) (numbers : List Float) (k : ℕ) (f : Outcome (ℕ × ℕ)) (f_is : f ≡ find_command codes numbers k) where
+  pub fault_number : (n : ℕ) → n ≡ number_of f → n ≡ command_fault codes numbers k
   unfolding command_fault find_command
   fault_number n n_is = n_is ∙ ap number_of f_is ∙ go (judge_command codes numbers k)
     where
       go : (o : Outcome (List PathCommand)) → number_of (mapped (found codes k) o) ≡ number_of o
-      go (refused r) = refl
-      go (accepted cs) = refl
+      go (Err r) = refl
+      go (Ok cs) = refl
 
-  pub part_none : (r : Refusal) → f ≡ Refused r → [] ≡ command_part codes numbers k
+  pub part_none : (r : Refusal) → f ≡ Err r → [] ≡ command_part codes numbers k
   unfolding command_part find_command
-  part_none r e = go (judge_command codes numbers k) (ap counts_of (sym e) ∙ f_is)
+  part_none r e = go (judge_command codes numbers k) ((sym e) ∙ f_is)
     where
-      go : (o : Outcome (List PathCommand)) → refused r ≡ mapped (found codes k) o
+      go : (o : Outcome (List PathCommand)) → Err r ≡ mapped (found codes k) o
           → [] ≡ list_of (mapped (λ (cs : List PathCommand). take (size_of_code (get_or codes k 3)) (drop (place_of k codes) numbers)) o)
-      go (refused q) e = refl
-      go (accepted cs) e = refused_accepted r (found codes k cs) e
+      go (Err q) e = refl
+      go (Ok cs) e = refused_accepted r (found codes k cs) e
 
-  module _ (start count : ℕ) (e : f ≡ Of start count) where
+  module _ (start count : ℕ) (e : f ≡ Ok (start, count)) where
     located : Answer codes numbers k × (◌≡◌ {A = ℕ × ℕ} (found codes k []) (start, count))
     unfolding find_command
-    located = go (judge_command codes numbers k) refl (ap counts_of (sym e) ∙ f_is)
+    located = go (judge_command codes numbers k) refl ((sym e) ∙ f_is)
       where
-        go : (o : Outcome (List PathCommand)) → judge_command codes numbers k ≡ o → counts_of (Of start count) ≡ mapped (found codes k) o → Answer codes numbers k × (◌≡◌ {A = ℕ × ℕ} (found codes k []) (start, count))
-        go (refused q) p e = refused_accepted q (start, count) (sym e)
-        go (accepted cs) p e = (answer_of codes numbers k cs p, sym (ap (value_or (start, count)) e))
+        go : (o : Outcome (List PathCommand)) → judge_command codes numbers k ≡ o → (Ok (start, count)) ≡ mapped (found codes k) o → Answer codes numbers k × (◌≡◌ {A = ℕ × ℕ} (found codes k []) (start, count))
+        go (Err q) p e = refused_accepted q (start, count) (sym e)
+        go (Ok cs) p e = (answer_of codes numbers k cs p, sym (ap (value_or (start, count)) e))
 
     start_is : place_of k codes ≡ start
     start_is = ap (λ (x : ℕ × ℕ). x.0) located.1

@@ -1,11 +1,9 @@
 -- A command list as codes and numbers: the order of its checks, its commands, and the numbers of one command. Definitions only.
-use Rattle.std.specs.Prelude.{ℕ, zero, suc, ◌+◌, not, List, [], ◌∷◌, eqb, ltb, Float, length, get_or, take, drop}
+use Rattle.std.specs.Prelude.{ℕ, zero, suc, ◌+◌, not, List, [], ◌∷◌, eqb, ltb, Float, length, get_or, take, drop, Ok, Err}
 use Rattle.command.specs.declared.PathCommand.{PathCommand}
 use Rattle.command.specs.declared.Refusal.TheVariants.{TooMany, OutOfBounds}
-use Rattle.command.specs.Outcomes.{Outcome, refused, accepted, number_of, mapped, and_then, list_of, ◌gives◌, checked}
+use Rattle.command.specs.Outcomes.{Outcome, number_of, mapped, and_then, list_of, ◌gives◌, checked}
 use Rattle.reader.specs.Read.{size_of_code, read_command}
-use Rattle.judge.specs.declared.Judged.{Judged}
-use Rattle.judge.specs.declared.Judged.TheVariants.{Fault, Sound}
 
 -- ---- the list
 
@@ -15,7 +13,7 @@ in_front rest c = mapped (λ (cs : List PathCommand). c ∷ cs) rest
 
 -- the first faulty command in list order counts; numbers left over after the last command come last, as 12
 unfoldable pub read_list : List ℕ → List Float → Outcome (List PathCommand)
-read_list [] v = checked ((not (eqb (length v) 0) gives OutOfBounds) ∷ []) (accepted [])
+read_list [] v = checked ((not (eqb (length v) 0) gives OutOfBounds) ∷ []) (Ok [])
 read_list (c ∷ cs) v = and_then (read_command c v) (in_front (read_list cs (drop (size_of_code c) v)))
 
 -- the length limit is first: over 262,144 commands is 2
@@ -25,11 +23,7 @@ most_commands = 262144
 unfoldable pub judge_list : List ℕ → List Float → Outcome (List PathCommand)
 judge_list codes numbers = checked ((ltb most_commands (length codes) gives TooMany) ∷ []) (read_list codes numbers)
 
--- the outcome that a `Judged` is, and an outcome without its commands
-abbrev pub judged_of : Judged → Outcome (Unit {0})
-judged_of (Fault r) = refused r
-judged_of Sound = accepted tt
-
+-- an outcome without its commands
 abbrev pub without_commands : Outcome (List PathCommand) → Outcome (Unit {0})
 without_commands o = mapped (λ (cs : List PathCommand). tt) o
 
@@ -43,7 +37,7 @@ place_of (suc k) (c ∷ cs) = size_of_code c + place_of k cs
 
 -- commands of which command k is asked for: a missing one, k of count or more, is 12
 unfoldable pub asked_for : ℕ → ℕ → List PathCommand → Outcome (List PathCommand)
-asked_for k count cs = checked ((not (ltb k count) gives OutOfBounds) ∷ []) (accepted cs)
+asked_for k count cs = checked ((not (ltb k count) gives OutOfBounds) ∷ []) (Ok cs)
 
 -- the list is judged as for its length, then command k is asked for
 unfoldable pub judge_command : List ℕ → List Float → ℕ → Outcome (List PathCommand)

@@ -1,4 +1,5 @@
 -- A list that is not too long is measured as it is read, and a walk to its end comes to its length. Assumes nothing.
+use Rattle.std.specs.Prelude.{None, Ok, Err}
 use mathlib.Core.Path.{◌≡◌, refl, sym, ◌∙◌}
 use mathlib.Core.Bool.{Bool, true, false, not}
 use mathlib.Core.List.{List, [], ◌∷◌}
@@ -9,12 +10,11 @@ use lib.ListN.{length, drop}
 use borrow.Author.Tests.{le-ltb}
 use Rattle.command.specs.declared.PathCommand.{PathCommand}
 use Rattle.command.specs.declared.Refusal.TheVariants.{OutOfBounds}
-use Rattle.command.specs.Outcomes.{Outcome, refused, accepted, mapped, and_then, ◌gives◌, checked}
+use Rattle.command.specs.Outcomes.{Outcome, mapped, and_then, ◌gives◌, checked}
 use Rattle.reader.specs.Read.{size_of_code, read_command}
 use Rattle.judge.specs.Lists.{in_front, read_list, judge_list}
 use Rattle.measure.specs.declared.Pen.{Pen}
 use Rattle.measure.specs.Length.{start_pen, step, steps, length_after, path_length}
-use Rattle.length.specs.declared.Until.TheVariants.{End}
 use Rattle.length.specs.Lists.{measure_list}
 use Rattle.length.specs.Walk.{is_there, walk_from}
 
@@ -30,12 +30,12 @@ measured_read codes v few = rw (le-ltb 262144 (length codes) few)
 abbrev pub length_of : Outcome (Bool × ℕ × Float) → Outcome Float
 length_of o = mapped (λ (x : Bool × ℕ × Float). x.2) o
 
-walk_through : (pen : Pen) (n : ℕ) (codes : List ℕ) (v : List Float) → length_of (walk_from End pen n codes v) ≡ mapped (length_from pen) (read_list codes v)
+walk_through : (pen : Pen) (n : ℕ) (codes : List ℕ) (v : List Float) → length_of (walk_from None pen n codes v) ≡ mapped (length_from pen) (read_list codes v)
 unfolding walk_from is_there read_list steps
 walk_through pen n [] v = go (eqb (length v) 0)
   where
-    go : (b : Bool) → length_of (mapped (λ (cs : List PathCommand). (false, n, pen.length)) (checked ((not b gives OutOfBounds) ∷ []) (accepted [])))
-        ≡ mapped (length_from pen) (checked ((not b gives OutOfBounds) ∷ []) (accepted []))
+    go : (b : Bool) → length_of (mapped (λ (cs : List PathCommand). (false, n, pen.length)) (checked ((not b gives OutOfBounds) ∷ []) (Ok [])))
+        ≡ mapped (length_from pen) (checked ((not b gives OutOfBounds) ∷ []) (Ok []))
     go true = refl
     go false = refl
 walk_through pen n (c ∷ cs) v = go (read_command c v) (λ (p : PathCommand). walk_through (step pen p) (suc n) cs (drop (size_of_code c) v))
@@ -44,17 +44,17 @@ walk_through pen n (c ∷ cs) v = go (read_command c v) (λ (p : PathCommand). w
     rest = read_list cs (drop (size_of_code c) v)
 
     after : PathCommand → Outcome (Bool × ℕ × Float)
-    after p = walk_from End (step pen p) (suc n) cs (drop (size_of_code c) v)
+    after p = walk_from None (step pen p) (suc n) cs (drop (size_of_code c) v)
 
     go : (o : Outcome PathCommand) → ((p : PathCommand) → length_of (after p) ≡ mapped (length_from (step pen p)) rest)
         → length_of (and_then o after) ≡ mapped (length_from pen) (and_then o (in_front rest))
-    go (refused r) then = refl
-    go (accepted p) then = then p ∙ one rest
+    go (Err r) then = refl
+    go (Ok p) then = then p ∙ one rest
       where
         one : (o : Outcome (List PathCommand)) → mapped (length_from (step pen p)) o ≡ mapped (length_from pen) (in_front o p)
-        one (refused r) = unfold in_front in refl
-        one (accepted ps) = unfold in_front steps in refl
+        one (Err r) = unfold in_front in refl
+        one (Ok ps) = unfold in_front steps in refl
 
-pub walk_end : (codes : List ℕ) (v : List Float) → length codes ≤ 262144 → length_of (walk_from End start_pen 0 codes v) ≡ measure_list codes v
+pub walk_end : (codes : List ℕ) (v : List Float) → length codes ≤ 262144 → length_of (walk_from None start_pen 0 codes v) ≡ measure_list codes v
 unfolding path_length length_after
 walk_end codes v few = walk_through start_pen 0 codes v ∙ sym (measured_read codes v few)

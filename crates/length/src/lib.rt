@@ -3,82 +3,56 @@
 
 ghost use Rattle.std.specs.Prelude.{◌≡◌};
 ghost use Rattle.measure.specs.Length.{start_pen};
-ghost use Rattle.length.specs.Lists.{measure_list, measured_of};
-ghost use Rattle.length.specs.Walk.{is_there, walk_from, walked_of};
+ghost use Rattle.length.specs.Lists.{measure_list};
+ghost use Rattle.length.specs.Walk.{is_there, walk_from};
 
-use command::Refusal;
+use command::{Outcome, Refusal};
 use measure::Pen;
-use reader::Read;
 
-// What measuring a command list answers.
-#[derive(Clone, Copy)]
-pub enum Measured {
-    Refused(Refusal),
-    Length(f32),
-}
-
-// How far a list is read: to its end, or to the first command by which it is so long.
-#[derive(Clone, Copy)]
-pub enum Until {
-    End,
-    Length(f32),
-}
-
-// How far a walk came: why it was refused, or whether it stopped before the end, after how many commands, and how long
-// they are.
-#[derive(Clone, Copy)]
-pub enum Walked {
-    Refused(Refusal),
-    To(bool, usize, f32),
-}
-
-// Whether a walk stops at a pen.
-fn is_there(until: Until, pen: Pen) -> bool
-    ensures { result ≡ is_there until pen.length }
+// Whether a walk to the first command by which a list is so long, or to its end, stops at a pen.
+#[tactic(auto, unfolding(crate::specs::Walk::is_there))]
+fn is_there(least: Option<f32>, pen: Pen) -> bool
+    ensures { result ≡ is_there least pen.length }
 {
-    match until {
-        Until::End => false,
-        Until::Length(least) => least <= pen.length,
+    match least {
+        None => false,
+        Some(least) => least <= pen.length,
     }
 }
 
-// Reads a list from its start: each command is judged, then drawn by the pen. What lies past the stop is not read.
-pub fn walk(codes: &[u8], numbers: &[f32], until: Until) -> Walked
-    ensures { walked_of result ≡ walk_from until start_pen 0 codes.now numbers.now }
+// Reads a list from its start: each command is judged, then drawn by the pen. What lies past the first command by which the
+// list is so long is not read. Tells whether there is one, how many commands were read, and how long they are.
+#[tactic(auto, using(crate::proofs::Ways::walking))]
+pub fn walk(codes: &[u8], numbers: &[f32], least: Option<f32>) -> Outcome<(bool, usize, f32)>
+    ensures { result ≡ walk_from least start_pen 0 codes.now numbers.now }
 {
     let mut pen = measure::start();
-    let mut i: usize = 0;
-    let mut place: usize = 0;
-    while !is_there(until, pen) {
-        if i == codes.len() {
-            if place < numbers.len() {
-                return Walked::Refused(Refusal::OutOfBounds);
-            }
-            return Walked::To(false, i, pen.length);
+    let mut place = 0;
+    for i in 0..codes.len() {
+        if is_there(least, pen) {
+            return Ok((true, i, pen.length));
         }
-        match reader::read_command(codes[i], numbers, place) {
-            Read::Refused(refusal) => {
-                return Walked::Refused(refusal);
-            }
-            Read::Command(command, next) => {
-                pen = measure::step(pen, command);
-                place = next;
-            }
-        }
-        i += 1;
+        let (command, next) = reader::read_command(codes[i], numbers, place)?;
+        pen = measure::step(pen, command);
+        place = next;
     }
-    Walked::To(true, i, pen.length)
+    if is_there(least, pen) {
+        return Ok((true, codes.len(), pen.length));
+    }
+    if place < numbers.len() {
+        return Err(Refusal::OutOfBounds);
+    }
+    Ok((false, codes.len(), pen.length))
 }
 
 // The length of a list, or why it is refused.
-pub fn path_length(codes: &[u8], numbers: &[f32]) -> Measured
-    ensures { measured_of result ≡ measure_list codes.now numbers.now }
+#[tactic(auto, using(crate::proofs::Ways::lengths))]
+pub fn path_length(codes: &[u8], numbers: &[f32]) -> Outcome<f32>
+    ensures { result ≡ measure_list codes.now numbers.now }
 {
     if codes.len() > 262144 {
-        return Measured::Refused(Refusal::TooMany);
+        return Err(Refusal::TooMany);
     }
-    match walk(codes, numbers, Until::End) {
-        Walked::Refused(refusal) => Measured::Refused(refusal),
-        Walked::To(_, _, length) => Measured::Length(length),
-    }
+    let (_, _, length) = walk(codes, numbers, None)?;
+    Ok(length)
 }

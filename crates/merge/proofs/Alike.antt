@@ -2,6 +2,7 @@
 -- It reads nothing past the row number.
 -- So altering a hidden row's place, mark or count within the rules for a row changes no decision.
 -- Assumes nothing.
+use Rattle.std.specs.Prelude.{Ok, Err}
 use mathlib.Core.Path.{◌≡◌, refl, sym, ap, ◌∙◌}
 use mathlib.Core.Bool.{Bool, true, false, cond, ◌&&◌}
 use mathlib.Core.List.{List, ◌∷◌}
@@ -10,7 +11,6 @@ use lib.Dec.{eqb, leb}
 use lib.ListN.{length, get_or, take, drop}
 use borrow.Author.Tests.{le-ltb}
 use Rattle.command.specs.declared.Refusal.TheVariants.{NotMergeable}
-use Rattle.command.specs.Outcomes.{refused, accepted}
 use Rattle.item.specs.declared.ItemRow.{ItemRow}
 use Rattle.item.specs.Rows.{is_visible, is_listed}
 use Rattle.nest.specs.Lists.{rows_from, each_row}
@@ -81,7 +81,7 @@ settled_alike : {rs qs : List ItemRow} (s : Scan) → Alike rs qs → settled s 
 unfolding settled
 settled_alike Nowhere a = refl
 settled_alike (At m c) a =
-    λ j. cond (leb 2 c && late_alike true (drop_alike (m + 1) a) j) (accepted (sources_alike 0 (take_alike m a) j)) (refused NotMergeable)
+    λ j. cond (leb 2 c && late_alike true (drop_alike (m + 1) a) j) (Ok (sources_alike 0 (take_alike m a) j)) (Err NotMergeable)
 
 pub flat_alike : {rs qs : List ItemRow} → Alike rs qs → flat_ruling rs ≡ flat_ruling qs
 unfolding flat_ruling

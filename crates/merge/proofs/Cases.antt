@@ -1,9 +1,9 @@
 -- Closed cases of the decision, each computed. Assumes nothing.
+use Rattle.std.specs.Prelude.{Ok, Err}
 use mathlib.Core.Path.{◌≡◌, refl}
 use mathlib.Core.List.{List, [], ◌∷◌, ◌++◌}
 use Prim.Native.Nat.{ℕ}
 use Rattle.command.specs.declared.Refusal.TheVariants.{Empty, TooMany, Unlisted, BrokenNesting, NotMergeable, OutOfBounds}
-use Rattle.command.specs.Outcomes.{refused, accepted}
 use Rattle.merge.specs.Decision.{decision}
 
 -- the six entries of a visible row of this kind, depth and mark
@@ -30,85 +30,85 @@ abbrev merge : ℕ → List ℕ
 merge mode = row 13 0 mode
 
 -- ---- two sources are joined; one is too few, and a hidden or nested one is none
-two : decision (rectangle 0 ++ rectangle 0 ++ merge 1) 3 ≡ accepted (0 ∷ 1 ∷ [])
+two : decision (rectangle 0 ++ rectangle 0 ++ merge 1) 3 ≡ Ok (0 ∷ 1 ∷ [])
 unfolding decision
 two = refl
 
-one : decision (rectangle 0 ++ merge 1) 2 ≡ refused NotMergeable
+one : decision (rectangle 0 ++ merge 1) 2 ≡ Err NotMergeable
 unfolding decision
 one = refl
 
-one_hidden : decision (rectangle 0 ++ hidden_rectangle 0 ++ merge 1) 3 ≡ refused NotMergeable
+one_hidden : decision (rectangle 0 ++ hidden_rectangle 0 ++ merge 1) 3 ≡ Err NotMergeable
 unfolding decision
 one_hidden = refl
 
-one_nested : decision (rectangle 0 ++ group 0 ++ hidden_rectangle 1 ++ rectangle 1 ++ merge 1) 5 ≡ refused NotMergeable
+one_nested : decision (rectangle 0 ++ group 0 ++ hidden_rectangle 1 ++ rectangle 1 ++ merge 1) 5 ≡ Err NotMergeable
 unfolding decision
 one_nested = refl
 
 -- ---- before the merge row: an empty group or a tr may stand there; a group with a shape to draw, a style or an mm of another mode may not
-after_empty_group : decision (group 0 ++ hidden_rectangle 1 ++ rectangle 0 ++ transform ++ rectangle 0 ++ merge 1) 6 ≡ accepted (2 ∷ 4 ∷ [])
+after_empty_group : decision (group 0 ++ hidden_rectangle 1 ++ rectangle 0 ++ transform ++ rectangle 0 ++ merge 1) 6 ≡ Ok (2 ∷ 4 ∷ [])
 unfolding decision
 after_empty_group = refl
 
-after_group : decision (group 0 ++ rectangle 1 ++ rectangle 0 ++ rectangle 0 ++ merge 1) 5 ≡ refused NotMergeable
+after_group : decision (group 0 ++ rectangle 1 ++ rectangle 0 ++ rectangle 0 ++ merge 1) 5 ≡ Err NotMergeable
 unfolding decision
 after_group = refl
 
-after_fill : decision (rectangle 0 ++ rectangle 0 ++ fill ++ merge 1) 4 ≡ refused NotMergeable
+after_fill : decision (rectangle 0 ++ rectangle 0 ++ fill ++ merge 1) 4 ≡ Err NotMergeable
 unfolding decision
 after_fill = refl
 
-after_other_mode : decision (rectangle 0 ++ rectangle 0 ++ merge 2 ++ merge 1) 4 ≡ refused NotMergeable
+after_other_mode : decision (rectangle 0 ++ rectangle 0 ++ merge 2 ++ merge 1) 4 ≡ Err NotMergeable
 unfolding decision
 after_other_mode = refl
 
 -- ---- after it: a style may stand there, and an mm with no new sources; no mm after a style, no source, and no group, even an empty one
-fill_after : decision (rectangle 0 ++ rectangle 0 ++ merge 1 ++ fill) 4 ≡ accepted (0 ∷ 1 ∷ [])
+fill_after : decision (rectangle 0 ++ rectangle 0 ++ merge 1 ++ fill) 4 ≡ Ok (0 ∷ 1 ∷ [])
 unfolding decision
 fill_after = refl
 
-merge_after : decision (rectangle 0 ++ rectangle 0 ++ merge 1 ++ merge 2) 4 ≡ accepted (0 ∷ 1 ∷ [])
+merge_after : decision (rectangle 0 ++ rectangle 0 ++ merge 1 ++ merge 2) 4 ≡ Ok (0 ∷ 1 ∷ [])
 unfolding decision
 merge_after = refl
 
-merge_after_transform : decision (rectangle 0 ++ rectangle 0 ++ merge 1 ++ transform ++ hidden_rectangle 0 ++ merge 1) 6 ≡ accepted (0 ∷ 1 ∷ [])
+merge_after_transform : decision (rectangle 0 ++ rectangle 0 ++ merge 1 ++ transform ++ hidden_rectangle 0 ++ merge 1) 6 ≡ Ok (0 ∷ 1 ∷ [])
 unfolding decision
 merge_after_transform = refl
 
-merge_after_fill : decision (rectangle 0 ++ rectangle 0 ++ merge 1 ++ fill ++ merge 2) 5 ≡ refused NotMergeable
+merge_after_fill : decision (rectangle 0 ++ rectangle 0 ++ merge 1 ++ fill ++ merge 2) 5 ≡ Err NotMergeable
 unfolding decision
 merge_after_fill = refl
 
-source_after : decision (rectangle 0 ++ rectangle 0 ++ merge 1 ++ rectangle 0) 4 ≡ refused NotMergeable
+source_after : decision (rectangle 0 ++ rectangle 0 ++ merge 1 ++ rectangle 0) 4 ≡ Err NotMergeable
 unfolding decision
 source_after = refl
 
-group_after : decision (rectangle 0 ++ rectangle 0 ++ merge 1 ++ group 0) 4 ≡ refused NotMergeable
+group_after : decision (rectangle 0 ++ rectangle 0 ++ merge 1 ++ group 0) 4 ≡ Err NotMergeable
 unfolding decision
 group_after = refl
 
 -- ---- the order of the checks: no rows, too many, too few entries, depth, unlisted entries, nesting
-no_rows : decision [] 0 ≡ refused Empty
+no_rows : decision [] 0 ≡ Err Empty
 unfolding decision
 no_rows = refl
 
-many_rows : decision [] 257 ≡ refused TooMany
+many_rows : decision [] 257 ≡ Err TooMany
 unfolding decision
 many_rows = refl
 
-short_list : decision (rectangle 9 ++ row 15 0 0) 3 ≡ refused OutOfBounds
+short_list : decision (rectangle 9 ++ row 15 0 0) 3 ≡ Err OutOfBounds
 unfolding decision
 short_list = refl
 
-deep : decision (row 15 0 0 ++ rectangle 9) 2 ≡ refused TooMany
+deep : decision (row 15 0 0 ++ rectangle 9) 2 ≡ Err TooMany
 unfolding decision
 deep = refl
 
-unlisted : decision (rectangle 1 ++ row 15 0 0) 2 ≡ refused Unlisted
+unlisted : decision (rectangle 1 ++ row 15 0 0) 2 ≡ Err Unlisted
 unfolding decision
 unlisted = refl
 
-broken : decision (rectangle 0 ++ rectangle 1) 2 ≡ refused BrokenNesting
+broken : decision (rectangle 0 ++ rectangle 1) 2 ≡ Err BrokenNesting
 unfolding decision
 broken = refl

@@ -4,6 +4,7 @@
 --     no_scan, scanned  what a scan of the rows says of the items
 --     ruling_flat       so the rule on items is the rule on rows
 -- Assumes nothing.
+use Rattle.std.specs.Prelude.{Ok, Err}
 use mathlib.Core.Path.{◌≡◌, refl, sym, ap, ap₂, ◌∙◌}
 use mathlib.Core.Bool.{Bool, true, false, cond, not, ◌&&◌, ◌||◌, true≢false, and-true, and-false, and-eq-true_iff}
 use mathlib.Core.List.{List, [], ◌∷◌}
@@ -14,7 +15,7 @@ use lib.ListN.{length, take, drop}
 use borrow.Author.Tests.{eqb-true, le-ltb}
 use Rattle.command.specs.declared.Refusal.{Refusal}
 use Rattle.command.specs.declared.Refusal.TheVariants.{NotMergeable}
-use Rattle.command.specs.Outcomes.{Outcome, refused, accepted, ◌gives◌, checked}
+use Rattle.command.specs.Outcomes.{Outcome, ◌gives◌, checked}
 use Rattle.item.specs.declared.ItemRow.{ItemRow}
 use Rattle.item.specs.Rows.{item_row, is_visible, is_source, is_group, is_transform, is_style, is_merge}
 use Rattle.nest.specs.Lists.{rows_from}
@@ -261,8 +262,8 @@ scanned (r ∷ rs) i k m c e = scanned_top i k m c r rs (eqb r.depth 0) refl e (
 
 -- what the code makes of a scan
 unfoldable pub settled : Scan → List ItemRow → Outcome (List ℕ)
-settled Nowhere rs = refused NotMergeable
-settled (At m c) rs = cond (leb 2 c && late_from true (drop (m + 1) rs)) (accepted (sources_from 0 (take m rs))) (refused NotMergeable)
+settled Nowhere rs = Err NotMergeable
+settled (At m c) rs = cond (leb 2 c && late_from true (drop (m + 1) rs)) (Ok (sources_from 0 (take m rs))) (Err NotMergeable)
 
 unfoldable pub flat_ruling : List ItemRow → Outcome (List ℕ)
 unfolding settled
@@ -270,10 +271,10 @@ flat_ruling rs = settled (scan_from 0 0 rs) rs
 
 unfoldable entry_ruling : List Entry → Outcome (List ℕ)
 unfolding joins sources before
-entry_ruling es = checked ((not (joins es) gives NotMergeable) ∷ []) (accepted (sources (before es)))
+entry_ruling es = checked ((not (joins es) gives NotMergeable) ∷ []) (Ok (sources (before es)))
 
 -- a check that something does not hold
-not_holds : (b : Bool) (r : Refusal) (o : Outcome (List ℕ)) → checked ((not b gives r) ∷ []) o ≡ cond b o (refused r)
+not_holds : (b : Bool) (r : Refusal) (o : Outcome (List ℕ)) → checked ((not b gives r) ∷ []) o ≡ cond b o (Err r)
 not_holds true r o = refl
 not_holds false r o = refl
 
@@ -286,7 +287,7 @@ entries_settled rs (At m c) e =
     let q : suc s.place ≡ m + 1 = omega arith in
     let many : length (sources (before (top_entries 0 rs))) ≡ c = omega arith in
     rw (s.is_found, s.is_early, many, s.rest, ← late_are (drop (suc s.place) rs) (m + 1) (up_to [] (top_entries 0 rs)), s.clean [], q, s.named, p)
-    (not_holds (leb 2 c && late_from true (drop (m + 1) rs)) NotMergeable (accepted (sources_from 0 (take m rs))))
+    (not_holds (leb 2 c && late_from true (drop (m + 1) rs)) NotMergeable (Ok (sources_from 0 (take m rs))))
 
 -- the rule on items is the rule on rows
 pub ruling_flat : (rows : List ℕ) (n : ℕ) → ruling rows n ≡ flat_ruling (rows_from rows 0 n)

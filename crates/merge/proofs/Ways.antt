@@ -1,5 +1,6 @@
 -- What each way out of a function of this crate owes, as the code meets it: a premise for each test and for each call's result.
 -- Assumes nothing.
+use Rattle.std.specs.Prelude.{Ok, Err}
 use mathlib.Core.Path.{◌≡◌, sym, ap, ap₂, ◌∙◌}
 use mathlib.Core.Bool.{Bool, true, false, cond, ◌&&◌, or-false}
 use mathlib.Core.List.{List}
@@ -11,7 +12,6 @@ use mir.Val.{Fits}
 use mir.Syntax.{w64}
 use borrow.Author.Tests.{eq-eqb, ne_eqb, le-leb, lt-leb, lt-ltb, le-ltb}
 use Rattle.command.specs.declared.Refusal.TheVariants.{Empty, TooMany, Unlisted, BrokenNesting, NotMergeable, OutOfBounds}
-use Rattle.command.specs.Outcomes.{refused, accepted}
 use Rattle.item.specs.declared.ItemRow.{ItemRow}
 use Rattle.item.specs.Rows.{item_row, is_source, is_listed}
 use Rattle.nest.specs.Lists.{rows_from, each_row, is_shallow, is_nested}
@@ -262,7 +262,7 @@ module _ (rows : List ℕ) (n : ℕ) (scan : Scan) (scan_is : scan ≡ scan_from
     rule_few h = rw (lt-leb 2 count h) at (ruled (At m count) e)
 
     module _ (h : 2 ≤ count) (x : Bool) (x_is : x ≡ late_from true (rows_from rows (m + 1) (n - (m + 1)))) where
-      rule_many : cond x (accepted (sources_from 0 (rows_from rows 0 m))) (refused NotMergeable) ≡ ruling rows n
+      rule_many : cond x (Ok (sources_from 0 (rows_from rows 0 m))) (Err NotMergeable) ≡ ruling rows n
       unfolding settled
       rule_many =
           let inside : m < n = merge_inside in

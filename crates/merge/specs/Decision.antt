@@ -1,7 +1,7 @@
 -- What a merge comes to on its rows: a refusal, or which rows are joined. Definitions only.
-use Rattle.std.specs.Prelude.{ℕ, ◌*◌, ◌≤◌, not, List, [], ◌∷◌, ltb, eqb, length}
+use Rattle.std.specs.Prelude.{ℕ, ◌*◌, ◌≤◌, not, List, [], ◌∷◌, ltb, eqb, length, Ok, Err}
 use Rattle.command.specs.declared.Refusal.TheVariants.{Empty, TooMany, Unlisted, BrokenNesting, NotMergeable, OutOfBounds}
-use Rattle.command.specs.Outcomes.{Outcome, refused, accepted, Check, ◌gives◌, checked}
+use Rattle.command.specs.Outcomes.{Outcome, Check, ◌gives◌, checked}
 use Rattle.item.specs.Rows.{is_listed}
 use Rattle.nest.specs.Lists.{rows_from, each_row, is_shallow, is_nested}
 use Rattle.nest.specs.Items.{items_of}
@@ -15,7 +15,7 @@ unfoldable pub ruling : List ℕ → ℕ → Outcome (List ℕ)
 unfolding items_of entries joins sources before
 ruling rows n =
     let items = entries (items_of rows n) in
-    checked ((not (joins items) gives NotMergeable) ∷ []) (accepted (sources (before items)))
+    checked ((not (joins items) gives NotMergeable) ∷ []) (Ok (sources (before items)))
 
 -- the checks on the rows, each over all rows before the next: 1, 2 for the row number, 12, 2 for depth, 4, 6
 unfoldable pub row_checks : List ℕ → ℕ → List Check
@@ -37,8 +37,8 @@ decision rows n = checked (row_checks rows n) (ruling rows n)
 -- what an answer of `decide` says: its refusal, or the sources before its merge row
 unfoldable pub said : List ℕ → Decision → Outcome (List ℕ)
 unfolding rows_from sources_from
-said rows (Refused r) = refused r
-said rows (Joined m) = accepted (sources_from 0 (rows_from rows 0 m))
+said rows (Refused r) = Err r
+said rows (Joined m) = Ok (sources_from 0 (rows_from rows 0 m))
 
 -- what a decision leaves to the joining
 abbrev pub Settled : List ℕ → Decision → Type 0

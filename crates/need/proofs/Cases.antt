@@ -1,10 +1,10 @@
 -- Closed cases of needs, each computed: document 02's straight frames, and what a tangent adds. Assumes nothing.
+use Rattle.std.specs.Prelude.{Ok, Err}
 use mathlib.Core.Path.{◌≡◌, refl}
 use mathlib.Core.List.{List, [], ◌∷◌, ◌++◌}
 use Prim.Native.Nat.{ℕ}
 use lib.Ieee.{Float, binary32, add, sub, le, sum, round, units, size, span, climb, odd, of_bits, of_fields}
 use Rattle.command.specs.declared.Refusal.TheVariants.{Empty, Unlisted, OutOfBounds}
-use Rattle.command.specs.Outcomes.{refused, accepted}
 use Rattle.command.specs.Buffers.{need_of}
 use Rattle.path.specs.Path.{bezier_segment}
 use Rattle.draw.specs.Paths.{draw_path}
@@ -24,34 +24,34 @@ triangle = vertex (f 0) (f 0) (f 0) ++ vertex (f 0x4040_0000) (f 0) (f 0) ++ ver
 abbrev bent : List Float
 bent = vertex (f 0) (f 0) (f 0) ++ vertex (f 0x4040_0000) (f 0) (f 0) ++ vertex (f 0x4040_0000) (f 0x4080_0000) (f 0x3f80_0000)
 
-straight_triangle : need_of (draw_path 1 triangle 3) ≡ accepted (5, 8)
+straight_triangle : need_of (draw_path 1 triangle 3) ≡ Ok (5, 8)
 unfolding draw_path bezier_segment add sub le sum round units size span climb odd of_bits of_fields
 straight_triangle = refl
 
 -- the closing segment is a cubic: a move, two lines, a cubic and a close
-bent_triangle : need_of (draw_path 1 bent 3) ≡ accepted (5, 12)
+bent_triangle : need_of (draw_path 1 bent 3) ≡ Ok (5, 12)
 unfolding draw_path bezier_segment add sub le sum round units size span climb odd of_bits of_fields
 bent_triangle = refl
 
 -- which an open path does not have
-open_triangle : need_of (draw_path 0 bent 3) ≡ accepted (3, 6)
+open_triangle : need_of (draw_path 0 bent 3) ≡ Ok (3, 6)
 unfolding draw_path bezier_segment add sub le sum round units size span climb odd of_bits of_fields
 open_triangle = refl
 
 -- one vertex, whatever the flag
-one_vertex : need_of (draw_path 1 bent 1) ≡ accepted (2, 4)
+one_vertex : need_of (draw_path 1 bent 1) ≡ Ok (2, 4)
 unfolding draw_path le of_bits of_fields
 one_vertex = refl
 
 -- refused as drawing is
-none : need_of (draw_path 2 bent 0) ≡ refused Empty
+none : need_of (draw_path 2 bent 0) ≡ Err Empty
 unfolding draw_path
 none = refl
 
-flag_before_length : need_of (draw_path 2 [] 3) ≡ refused Unlisted
+flag_before_length : need_of (draw_path 2 [] 3) ≡ Err Unlisted
 unfolding draw_path
 flag_before_length = refl
 
-short_list : need_of (draw_path 1 [] 3) ≡ refused OutOfBounds
+short_list : need_of (draw_path 1 [] 3) ≡ Err OutOfBounds
 unfolding draw_path
 short_list = refl

@@ -1,4 +1,5 @@
 -- What has a need is drawn, and a need is within the room that is enough for so many vertices or for a row. Assumes nothing.
+use Rattle.std.specs.Prelude.{Ok, Err}
 use mathlib.Core.Path.{◌≡◌, refl, sym, ap, ◌∙◌}
 use mathlib.Core.Bool.{Bool, true, false, cond}
 use mathlib.Core.List.{List}
@@ -7,7 +8,7 @@ use lib.Ieee.{Float}
 use lib.ListN.{drop}
 use Rattle.command.specs.declared.PathCommand.{PathCommand}
 use Rattle.command.specs.declared.Refusal.TheVariants.{Unsupported}
-use Rattle.command.specs.Outcomes.{Outcome, refused, accepted, value_or, list_of}
+use Rattle.command.specs.Outcomes.{Outcome, value_or, list_of}
 use Rattle.command.specs.Buffers.{size_of, need_of}
 use Rattle.command.proofs.Outcomes.{refused_accepted, checks_passed}
 use Rattle.path.proofs.Counts.{path_codes, path_numbers}
@@ -23,9 +24,9 @@ use Rattle.draw.proofs.Sources.{drawn_path, drawn_source}
 use Rattle.need.specs.Enough.{PathEnough, SourceEnough, ItemEnough, row_room}
 
 -- what has a need is drawn, and the need is the size of its commands
-pub drawn_needs : (o : Outcome (List PathCommand)) (need : ℕ × ℕ) → need_of o ≡ accepted need → (o ≡ accepted (list_of o)) × (size_of (list_of o) ≡ need)
-drawn_needs (refused r) need e = refused_accepted r need e
-drawn_needs (accepted cs) need e = (refl, ap (value_or need) e)
+pub drawn_needs : (o : Outcome (List PathCommand)) (need : ℕ × ℕ) → need_of o ≡ Ok need → (o ≡ Ok (list_of o)) × (size_of (list_of o) ≡ need)
+drawn_needs (Err r) need e = refused_accepted r need e
+drawn_needs (Ok cs) need e = (refl, ap (value_or need) e)
 
 -- ---- the room that is enough
 pub path_enough : PathEnough
@@ -35,12 +36,12 @@ path_enough closed v n need e =
     rw (← d.1, s.2) (path_codes closed v n s.0, path_numbers closed v n s.0)
 
 -- the room of a row is that of the shape that it makes
-made_room : (row : ItemRow) (v : List Float) (s : Shape) → item_shape row v ≡ accepted s → enough_for s ≡ row_room row
+made_room : (row : ItemRow) (v : List Float) (s : Shape) → item_shape row v ≡ Ok s → enough_for s ≡ row_room row
 unfolding item_shape row_room
 made_room row v s = go (is_path row) (is_rect row) (is_ellipse row)
   where
     go : (p r l : Bool)
-        → cond p (accepted (Path row.mark row.count)) (cond r (accepted (rect_of v)) (cond l (accepted Ellipse) (refused Unsupported))) ≡ accepted s
+        → cond p (Ok (Path row.mark row.count)) (cond r (Ok (rect_of v)) (cond l (Ok Ellipse) (Err Unsupported))) ≡ Ok s
         → enough_for s ≡ cond p (path_room row.count) (cond r rect_room ellipse_room)
     go true r l e = ap enough_for (sym (ap (value_or s) e))
     go false true l e = ap enough_for (sym (ap (value_or s) e))
@@ -59,4 +60,4 @@ unfolding draw_item
 item_enough row items need e =
     let d = drawn_needs (draw_item row items) need e in
     let p = checks_passed (item_checks row) (draw_source (item_row row 0) items) (list_of (draw_item row items)) d.0 in
-    source_enough (item_row row 0) items need (ap need_of p.1 ∙ ap accepted d.1)
+    source_enough (item_row row 0) items need (ap need_of p.1 ∙ ap Ok d.1)

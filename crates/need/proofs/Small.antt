@@ -1,4 +1,5 @@
 -- 11 is given by the need: no check before that of the buffers gives it. Assumes nothing.
+use Rattle.std.specs.Prelude.{Ok, Err}
 use mathlib.Core.Path.{◌≡◌, refl}
 use mathlib.Core.Bool.{Bool, true, false, cond, not}
 use mathlib.Core.List.{List, [], ◌∷◌}
@@ -10,7 +11,7 @@ use borrow.Author.Tests.{ne_eqb}
 use Rattle.command.specs.declared.PathCommand.{PathCommand}
 use Rattle.command.specs.declared.Refusal.TheVariants.{BufferTooSmall, Unsupported}
 use Rattle.command.specs.Refusals.{refusal_number}
-use Rattle.command.specs.Outcomes.{Outcome, refused, accepted, number_of, mapped, Check, checked}
+use Rattle.command.specs.Outcomes.{Outcome, number_of, mapped, Check, checked}
 use Rattle.command.specs.Buffers.{fitted, in_buffers}
 use Rattle.shape.specs.declared.Shape.{Shape}
 use Rattle.shape.specs.declared.Shape.TheVariants.{Path, Ellipse}
@@ -34,17 +35,17 @@ pub checked_not_small : {A : Type 0} (cs : List Check) (o : Outcome A) → NoneS
 checked_not_small [] o h g = g
 checked_not_small (c ∷ cs) o h g = go c.fails (checked_not_small cs o h.1 g)
   where
-    go : (t : Bool) → NotSmall (checked cs o) → NotSmall (cond t (refused c.refusal) (checked cs o))
+    go : (t : Bool) → NotSmall (checked cs o) → NotSmall (cond t (Err c.refusal) (checked cs o))
     go true f = h.0
     go false f = f
 
 -- then 11 is given by the need
 pub small_by_need : (o : Outcome (List PathCommand)) → NotSmall o → SmallByNeed o
 unfolding fitted
-small_by_need (refused r) h codes numbers = ne_eqb (refusal_number r) 11 h
-small_by_need (accepted cs) h codes numbers = go (in_buffers codes numbers cs)
+small_by_need (Err r) h codes numbers = ne_eqb (refusal_number r) 11 h
+small_by_need (Ok cs) h codes numbers = go (in_buffers codes numbers cs)
   where
-    go : (t : Bool) → eqb (number_of (cond t (accepted cs) (refused BufferTooSmall))) 11 ≡ not t
+    go : (t : Bool) → eqb (number_of (cond t (Ok cs) (Err BufferTooSmall))) 11 ≡ not t
     go true = refl
     go false = refl
 
@@ -61,7 +62,7 @@ shape_not_small row v = go (is_path row) (is_rect row) (is_ellipse row)
   where
     go : (p r l : Bool)
         → NotSmall (mapped (λ (s : Shape). shape_commands s v)
-        (cond p (accepted (Path row.mark row.count)) (cond r (accepted (rect_of v)) (cond l (accepted Ellipse) (refused Unsupported)))))
+        (cond p (Ok (Path row.mark row.count)) (cond r (Ok (rect_of v)) (cond l (Ok Ellipse) (Err Unsupported)))))
     go true r l h = omega arith
     go false true l h = omega arith
     go false false true h = omega arith

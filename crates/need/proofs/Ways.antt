@@ -1,17 +1,14 @@
 -- What each way out of a function of this crate owes, as the code meets it: a premise for each test and for each call's result.
 -- Assumes nothing.
+use Rattle.std.specs.Prelude.{Ok, Err}
 use mathlib.Core.Path.{◌≡◌, ap, ◌∙◌}
 use mathlib.Core.List.{List}
 use Prim.Native.Nat.{ℕ, ◌-◌}
 use lib.Ieee.{Float}
 use lib.ListN.{length, take, drop}
 use Rattle.command.specs.declared.Refusal.{Refusal}
-use Rattle.command.specs.declared.Counts.{Counts}
 use Rattle.command.specs.declared.Size.{Size}
-use Rattle.command.specs.declared.Verdict.{Verdict}
-use Rattle.command.specs.declared.Verdict.TheVariants.{Refused, Passed}
-use Rattle.command.specs.Outcomes.{refused, accepted, checked, counts_of}
-use Rattle.command.specs.Verdicts.{verdict_of}
+use Rattle.command.specs.Outcomes.{checked, Outcome, mapped}
 use Rattle.command.specs.Buffers.{size_of, need_of, pair_of}
 use Rattle.command.proofs.Verdicts.{behind_refused, behind_passed}
 use Rattle.path.specs.Path.{path_commands}
@@ -20,64 +17,62 @@ use Rattle.shape.specs.declared.Shape.TheVariants.{Path}
 use Rattle.shape.specs.Shape.{shape_commands}
 use Rattle.item.specs.declared.ItemRow.{ItemRow}
 use Rattle.item.specs.Rows.{item_row}
-use Rattle.draw.specs.declared.Checked.{Checked}
-use Rattle.draw.specs.declared.Checked.TheVariants.{Fault, Sound}
 use Rattle.draw.specs.Checks.{outcome_of}
 use Rattle.draw.specs.Paths.{path_checks, draw_path}
 use Rattle.draw.specs.Items.{source_checks, shape_drawn, draw_source, item_checks, draw_item}
 use Rattle.draw.proofs.Ways.{tail, path_ready, source_made, behind_checks, row_whole, item_drawn, sound_place, sound_fit}
 
 -- ---- path_need
-module _ (closed : ℕ) (v : List Float) (count : ℕ) (u : Verdict) (u_is : verdict_of u ≡ checked (path_checks closed v count) (accepted tt)) where
-  pub path_turned : (r : Refusal) → u ≡ Refused r → refused r ≡ need_of (draw_path closed v count)
+module _ (closed : ℕ) (v : List Float) (count : ℕ) (u : Outcome (Unit {0})) (u_is : u ≡ checked (path_checks closed v count) (Ok tt)) where
+  pub path_turned : (r : Refusal) → u ≡ Err r → Err r ≡ need_of (draw_path closed v count)
   unfolding draw_path
-  path_turned r e = rw (behind_refused (path_checks closed v count) u u_is r e (accepted (path_commands closed v count)))
+  path_turned r e = rw (behind_refused (path_checks closed v count) u u_is r e (Ok (path_commands closed v count)))
 
-  pub path_counted : (size : Size) → u ≡ Passed → pair_of size ≡ size_of (shape_commands (Path closed count) v)
-      → accepted (size.codes, size.numbers) ≡ need_of (draw_path closed v count)
+  pub path_counted : (size : Size) → u ≡ Ok tt → pair_of size ≡ size_of (shape_commands (Path closed count) v)
+      → Ok (size.codes, size.numbers) ≡ need_of (draw_path closed v count)
   unfolding draw_path shape_commands
-  path_counted size e f = rw (behind_passed (path_checks closed v count) u u_is e (accepted (path_commands closed v count))) (ap accepted f)
+  path_counted size e f = rw (behind_passed (path_checks closed v count) u u_is e (Ok (path_commands closed v count))) (ap Ok f)
 
 pub ruleset path_needs = (path_ready, path_turned, path_counted)
 
 -- ---- checked_need
-module _ (k : Checked) (v : List Float) where
-  pub fault_need : (r : Refusal) → k ≡ Fault r → refused r ≡ need_of (outcome_of k v)
+module _ (k : Outcome (ℕ × Shape)) (v : List Float) where
+  pub fault_need : (r : Refusal) → k ≡ Err r → Err r ≡ need_of (outcome_of k v)
   unfolding outcome_of
   fault_need r is = rw is
 
-  pub sound_need : (place : ℕ) (s : Shape) → k ≡ Sound place s → (size : Size)
-      → pair_of size ≡ size_of (shape_commands s (take (length v - place) (drop place v))) → accepted (size.codes, size.numbers) ≡ need_of (outcome_of k v)
+  pub sound_need : (place : ℕ) (s : Shape) → k ≡ Ok (place, s) → (size : Size)
+      → pair_of size ≡ size_of (shape_commands s (take (length v - place) (drop place v))) → Ok (size.codes, size.numbers) ≡ need_of (outcome_of k v)
   unfolding outcome_of
-  sound_need place s is size e = rw is (ap accepted (rw (tail v place) at e))
+  sound_need place s is size e = rw is (ap Ok (rw (tail v place) at e))
 
 pub ruleset checked_needs = (fault_need, sound_need, sound_place, sound_fit)
 
 -- ---- source_need
-module _ (row : ItemRow) (items : List Float) (u : Verdict) (u_is : verdict_of u ≡ checked (source_checks row items) (accepted tt)) where
-  pub source_turned : (r : Refusal) → u ≡ Refused r → refused r ≡ need_of (draw_source row items)
+module _ (row : ItemRow) (items : List Float) (u : Outcome (Unit {0})) (u_is : u ≡ checked (source_checks row items) (Ok tt)) where
+  pub source_turned : (r : Refusal) → u ≡ Err r → Err r ≡ need_of (draw_source row items)
   unfolding draw_source
   source_turned r e = rw (behind_refused (source_checks row items) u u_is r e (shape_drawn row (drop row.place items)))
 
-  pub source_counted : u ≡ Passed → (k : Checked) (r : Counts) → outcome_of k items ≡ shape_drawn row (drop row.place items)
-      → counts_of r ≡ need_of (outcome_of k items) → counts_of r ≡ need_of (draw_source row items)
+  pub source_counted : u ≡ Ok tt → (k : Outcome (ℕ × Shape)) (r : Outcome Size) → outcome_of k items ≡ shape_drawn row (drop row.place items)
+      → mapped pair_of r ≡ need_of (outcome_of k items) → mapped pair_of r ≡ need_of (draw_source row items)
   source_counted e k r is f = f ∙ ap need_of (source_made row items u u_is e k is)
 
 pub ruleset source_needs = (source_turned, source_counted, behind_checks)
 
 -- ---- item_need
-module _ (row : List ℕ) (items : List Float) (u : Verdict) (u_is : verdict_of u ≡ checked (item_checks row) (accepted tt)) where
-  pub item_turned : (r : Refusal) → u ≡ Refused r → refused r ≡ need_of (draw_item row items)
+module _ (row : List ℕ) (items : List Float) (u : Outcome (Unit {0})) (u_is : u ≡ checked (item_checks row) (Ok tt)) where
+  pub item_turned : (r : Refusal) → u ≡ Err r → Err r ≡ need_of (draw_item row items)
   unfolding draw_item
   item_turned r e = rw (behind_refused (item_checks row) u u_is r e (draw_source (item_row row 0) items))
 
-  module _ (e : u ≡ Passed) (first : ItemRow) (is : first ≡ item_row row 0) (w : Verdict)
-      (w_is : verdict_of w ≡ checked (source_checks first items) (accepted tt)) where
-    pub item_source_turned : (r : Refusal) → w ≡ Refused r → refused r ≡ need_of (draw_item row items)
+  module _ (e : u ≡ Ok tt) (first : ItemRow) (is : first ≡ item_row row 0) (w : Outcome (Unit {0}))
+      (w_is : w ≡ checked (source_checks first items) (Ok tt)) where
+    pub item_source_turned : (r : Refusal) → w ≡ Err r → Err r ≡ need_of (draw_item row items)
     item_source_turned r f = source_turned first items w w_is r f ∙ ap need_of (item_drawn row items u u_is e first is)
 
-    pub item_counted : w ≡ Passed → (k : Checked) (r : Counts) → outcome_of k items ≡ shape_drawn first (drop first.place items)
-        → counts_of r ≡ need_of (outcome_of k items) → counts_of r ≡ need_of (draw_item row items)
+    pub item_counted : w ≡ Ok tt → (k : Outcome (ℕ × Shape)) (r : Outcome Size) → outcome_of k items ≡ shape_drawn first (drop first.place items)
+        → mapped pair_of r ≡ need_of (outcome_of k items) → mapped pair_of r ≡ need_of (draw_item row items)
     item_counted f k r made g = source_counted first items w w_is f k r made g ∙ ap need_of (item_drawn row items u u_is e first is)
 
 pub ruleset item_needs = (item_turned, row_whole, item_source_turned, item_counted, behind_checks)

@@ -1,5 +1,7 @@
 -- What each way out of a function of this crate owes, as the code meets it: a premise for each test and for each call's result.
 -- Assumes nothing.
+use Rattle.command.specs.declared.Size.{Size}
+use Rattle.std.specs.Prelude.{Result, Ok, Err}
 use mathlib.Core.Path.{◌≡◌, refl, sym, ap, ap₂, ◌∙◌, subst}
 use mathlib.Core.Bool.{true}
 use mathlib.Core.List.{List, [], ◌∷◌, map}
@@ -12,12 +14,10 @@ use borrow.Author.Tests.{le-leb}
 use Rattle.ieee.specs.Limit.{all_within}
 use Rattle.command.specs.declared.PathCommand.{PathCommand}
 use Rattle.command.specs.declared.Refusal.{Refusal}
-use Rattle.command.specs.declared.Counts.{Counts}
-use Rattle.command.specs.declared.Counts.TheVariants.{Refused as NotDrawn, Of}
 use Rattle.command.specs.Commands.{codes_of, numbers_of, command_limit}
 use Rattle.command.specs.Refusals.{refusal_number}
-use Rattle.command.specs.Outcomes.{Outcome, refused, accepted, number_of, mapped, list_of, counts_number, first_count, second_count}
-use Rattle.command.specs.Buffers.{onto, in_buffers, fitted, Filled, FilledBoth}
+use Rattle.command.specs.Outcomes.{Outcome, number_of, mapped, list_of}
+use Rattle.command.specs.Buffers.{onto, in_buffers, fitted, Filled, FilledBoth, codes_told, numbers_told}
 use Rattle.command.proofs.Outcomes.{refused_accepted, number_some, answered}
 use Rattle.command.proofs.Lists.{codes_length}
 use Rattle.path.specs.Path.{path_commands}
@@ -29,10 +29,7 @@ use Rattle.judge.specs.Lists.{judge_list, place_of}
 use Rattle.judge.proofs.Ways.{judged_read}
 use Rattle.judge.proofs.Lists.{list_judged, read_written}
 use Rattle.measure.specs.Length.{path_length}
-use Rattle.length.specs.declared.Measured.{Measured}
-use Rattle.length.specs.declared.Measured.TheVariants.{Refused, Length}
-use Rattle.length.specs.Lists.{measured_of, measure_list}
-use Rattle.std.specs.Prelude.{Result, Ok, Err}
+use Rattle.length.specs.Lists.{measure_list}
 use Rattle.plate_read.specs.declared.Reading.{Reading}
 use Rattle.plate_read.specs.Text.{Content, faulty, given, read_text, reading_of, numbers_given}
 use Rattle.plate_read.proofs.Texts.{reading_counts}
@@ -50,18 +47,18 @@ module _ (t t' : List ℕ) (e : t ≡ t') where
 
 -- ---- print_measured
 -- what is measured was accepted
-measured_list : (o : Outcome (List PathCommand)) (x : Float) → mapped path_length o ≡ accepted x → o ≡ accepted (list_of o)
-measured_list (refused r) x e = refused_accepted r x e
-measured_list (accepted cs) x e = refl
+measured_list : (o : Outcome (List PathCommand)) (x : Float) → mapped path_length o ≡ Ok x → o ≡ Ok (list_of o)
+measured_list (Err r) x e = refused_accepted r x e
+measured_list (Ok cs) x e = refl
 
-module _ (codes : List ℕ) (numbers : List Float) (m : Measured) (m_is : measured_of m ≡ measure_list codes numbers) (out out' : List ℕ) (n : ℕ) where
+module _ (codes : List ℕ) (numbers : List Float) (m : Outcome Float) (m_is : m ≡ measure_list codes numbers) (out out' : List ℕ) (n : ℕ) where
   abbrev text : List ℕ
   text = measured_text codes numbers (measure_list codes numbers)
 
-  module _ (r : Refusal) (e : m ≡ Refused r) where
+  module _ (r : Refusal) (e : m ≡ Err r) where
     refusal_measured : refusal_text r ≡ text
     unfolding measured_text
-    refusal_measured = ap (measured_text codes numbers) (sym (ap measured_of e) ∙ m_is)
+    refusal_measured = ap (measured_text codes numbers) (sym (e) ∙ m_is)
 
     pub measured_refusal_count : n ≡ length (refusal_text r) → n ≡ length text
     measured_refusal_count = counted (refusal_text r) text refusal_measured n
@@ -69,9 +66,9 @@ module _ (codes : List ℕ) (numbers : List Float) (m : Measured) (m_is : measur
     pub measured_refusal_put : out' ≡ onto (refusal_text r) out → out' ≡ onto text out
     measured_refusal_put = put (refusal_text r) text refusal_measured out out'
 
-  module _ (x : Float) (e : m ≡ Length x) where
-    told : accepted x ≡ measure_list codes numbers
-    told = sym (ap measured_of e) ∙ m_is
+  module _ (x : Float) (e : m ≡ Ok x) where
+    told : Ok x ≡ measure_list codes numbers
+    told = sym (e) ∙ m_is
 
     pub measured_there : place_of (length codes) codes ≤ length numbers
     unfolding measure_list
@@ -100,8 +97,8 @@ unfolding fitted
 path_fits closed v count few = go (draw_path closed v count) refl
   where
     go : (o : Outcome (List PathCommand)) → draw_path closed v count ≡ o → fitted (in_buffers 258 1538) o ≡ o
-    go (refused r) e = refl
-    go (accepted cs) e =
+    go (Err r) e = refl
+    go (Ok cs) e =
         let s = drawn_path closed v count cs e in
         let a : length (codes_of cs) ≤ 258 = rw s.2 (omega (arith, path_codes closed v count s.0)) in
         let b : length (numbers_of cs) ≤ 1538 = rw s.2 (omega (arith, path_numbers closed v count s.0)) in
@@ -110,24 +107,24 @@ path_fits closed v count few = go (draw_path closed v count) refl
 -- a refusal is printed by its number
 refusal_text_lem : (r : Refusal) (o : Outcome (List PathCommand)) → refusal_number r ≡ number_of o → refusal_text r ≡ drawn_text o
 unfolding refusal_text drawn_text
-refusal_text_lem r (refused r') e = ap (λ (n : ℕ). line 8 (n ∷ [])) e
-refusal_text_lem r (accepted cs) e = let h = number_some r in absurd (omega arith)
+refusal_text_lem r (Err r') e = ap (λ (n : ℕ). line 8 (n ∷ [])) e
+refusal_text_lem r (Ok cs) e = let h = number_some r in absurd (omega arith)
 
 -- sound commands, measured and printed
-list_length : (cs : List PathCommand) → length cs ≤ 262144 → all_within command_limit (numbers_of cs) ≡ true → measure_list (codes_of cs) (numbers_of cs) ≡ accepted (path_length cs)
+list_length : (cs : List PathCommand) → length cs ≤ 262144 → all_within command_limit (numbers_of cs) ≡ true → measure_list (codes_of cs) (numbers_of cs) ≡ Ok (path_length cs)
 unfolding measure_list
 list_length cs few within = ap (mapped path_length) (list_judged cs few within)
 
 text_drawn : (cs : List PathCommand) → length cs ≤ 262144 → all_within command_limit (numbers_of cs) ≡ true
-    → measured_text (codes_of cs) (numbers_of cs) (measure_list (codes_of cs) (numbers_of cs)) ≡ drawn_text (accepted cs)
+    → measured_text (codes_of cs) (numbers_of cs) (measure_list (codes_of cs) (numbers_of cs)) ≡ drawn_text (Ok cs)
 unfolding measured_text drawn_text
 text_drawn cs few within = ap (measured_text (codes_of cs) (numbers_of cs)) (list_length cs few within) ∙ list_answer cs (path_length cs)
 
 pub room : (n m : ℕ) → n ≤ 258 → 17816 ≤ m → 69 * n + 14 ≤ m
 room n m h l = omega arith
 
-module _ (closed : ℕ) (v : List Float) (count : ℕ) (codes codes' : List ℕ) (numbers numbers' : List Float) (d : Counts)
-    (filled : FilledBoth (fitted (in_buffers (length codes) (length numbers)) (draw_path closed v count)) (counts_number d) (first_count d) (second_count d) codes codes' numbers numbers')
+module _ (closed : ℕ) (v : List Float) (count : ℕ) (codes codes' : List ℕ) (numbers numbers' : List Float) (d : Outcome Size)
+    (filled : FilledBoth (fitted (in_buffers (length codes) (length numbers)) (draw_path closed v count)) (number_of d) (codes_told d) (numbers_told d) codes codes' numbers numbers')
     (few : count ≤ 256) (long_codes : length codes ≡ 258) (long_numbers : length numbers ≡ 1538) where
   abbrev o : Outcome (List PathCommand)
   o = draw_path closed v count
@@ -136,23 +133,23 @@ module _ (closed : ℕ) (v : List Float) (count : ℕ) (codes codes' : List ℕ)
   fits = ap₂ (λ (a b : ℕ). fitted (in_buffers a b) o) long_codes long_numbers ∙ path_fits closed v count few
 
   -- the promise about each buffer, without the check that the drawing passes
-  in_codes : Filled (mapped codes_of o) (counts_number d) (first_count d) codes codes'
-  in_codes = subst (λ (p : Outcome (List PathCommand)). Filled (mapped codes_of p) (counts_number d) (first_count d) codes codes') fits filled.codes_filled
+  in_codes : Filled (mapped codes_of o) (number_of d) (codes_told d) codes codes'
+  in_codes = subst (λ (p : Outcome (List PathCommand)). Filled (mapped codes_of p) (number_of d) (codes_told d) codes codes') fits filled.codes_filled
 
-  in_numbers : Filled (mapped numbers_of o) (counts_number d) (second_count d) numbers numbers'
-  in_numbers = subst (λ (p : Outcome (List PathCommand)). Filled (mapped numbers_of p) (counts_number d) (second_count d) numbers numbers') fits filled.numbers_filled
+  in_numbers : Filled (mapped numbers_of o) (number_of d) (numbers_told d) numbers numbers'
+  in_numbers = subst (λ (p : Outcome (List PathCommand)). Filled (mapped numbers_of p) (number_of d) (numbers_told d) numbers numbers') fits filled.numbers_filled
 
-  number_is : counts_number d ≡ number_of o
+  number_is : number_of d ≡ number_of o
   number_is = in_codes.number_is ∙ go o
     where
       go : (p : Outcome (List PathCommand)) → number_of (mapped codes_of p) ≡ number_of p
-      go (refused r) = refl
-      go (accepted cs) = refl
+      go (Err r) = refl
+      go (Ok cs) = refl
 
   module _ (out out' : List ℕ) (n : ℕ) where
-    module _ (r : Refusal) (e : d ≡ NotDrawn r) where
+    module _ (r : Refusal) (e : d ≡ Err r) where
       refusal_drawn : refusal_text r ≡ drawn_text o
-      refusal_drawn = refusal_text_lem r o (sym (ap counts_number e) ∙ number_is)
+      refusal_drawn = refusal_text_lem r o (sym (ap number_of e) ∙ number_is)
 
       pub drawn_refusal_count : n ≡ length (refusal_text r) → n ≡ length (drawn_text o)
       drawn_refusal_count = counted (refusal_text r) (drawn_text o) refusal_drawn n
@@ -160,12 +157,12 @@ module _ (closed : ℕ) (v : List Float) (count : ℕ) (codes codes' : List ℕ)
       pub drawn_refusal_put : out' ≡ onto (refusal_text r) out → out' ≡ onto (drawn_text o) out
       drawn_refusal_put = put (refusal_text r) (drawn_text o) refusal_drawn out out'
 
-  module _ (i j : ℕ) (e : d ≡ Of i j) where
+  module _ (i j : ℕ) (e : d ≡ Ok (record { codes = i; numbers = j })) where
     abbrev cs : List PathCommand
     cs = list_of o
 
-    is_drawn : o ≡ accepted cs
-    is_drawn = answered o (sym (ap counts_number e) ∙ number_is) []
+    is_drawn : o ≡ Ok cs
+    is_drawn = answered o (sym (ap number_of e) ∙ number_is) []
 
     splits : (0 < count) × (count ≤ 1024) × (cs ≡ path_commands closed v count)
     splits = drawn_path closed v count cs is_drawn
@@ -177,10 +174,10 @@ module _ (closed : ℕ) (v : List Float) (count : ℕ) (codes codes' : List ℕ)
     numbers_written = ap (λ (p : Outcome (List PathCommand)). list_of (mapped numbers_of p)) is_drawn
 
     codes_count_is : i ≡ length (codes_of cs)
-    codes_count_is = sym (ap first_count e) ∙ in_codes.count_is ∙ ap length codes_written
+    codes_count_is = sym (ap codes_told e) ∙ in_codes.count_is ∙ ap length codes_written
 
     numbers_count_is : j ≡ length (numbers_of cs)
-    numbers_count_is = sym (ap second_count e) ∙ in_numbers.count_is ∙ ap length numbers_written
+    numbers_count_is = sym (ap numbers_told e) ∙ in_numbers.count_is ∙ ap length numbers_written
 
     codes_content : codes' ≡ onto (codes_of cs) codes
     codes_content = in_codes.content_is ∙ ap (λ (l : List ℕ). onto l codes) codes_written

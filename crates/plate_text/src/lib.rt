@@ -7,8 +7,6 @@ ghost use Rattle.draw.specs.Paths.{draw_path};
 ghost use Rattle.length.specs.Lists.{measure_list};
 ghost use Rattle.plate_text.specs.Plate.{drawn_text, plate_text, measured_text};
 
-use command::Counts;
-use length::Measured;
 
 // Prints a command list and its length, or why it has none.
 fn print_measured(codes: &[u8], numbers: &[f32], out: &mut [u8]) -> usize
@@ -17,8 +15,8 @@ fn print_measured(codes: &[u8], numbers: &[f32], out: &mut [u8]) -> usize
     ensures out_after { out.new ≡ onto (measured_text codes.now numbers.now (measure_list codes.now numbers.now)) out.old }
 {
     match length::path_length(codes, numbers) {
-        Measured::Refused(refusal) => plate_print::print_refusal(refusal, out),
-        Measured::Length(total) => plate_print::print_answer(codes, numbers, total, out),
+        Err(refusal) => plate_print::print_refusal(refusal, out),
+        Ok(total) => plate_print::print_answer(codes, numbers, total, out),
     }
 }
 
@@ -31,8 +29,8 @@ fn print_drawn(closed: u32, vertices: &[f32], count: usize, out: &mut [u8]) -> u
     let mut codes = [0; 258];
     let mut numbers = [0.0; 1538];
     match draw::draw_path(closed, vertices, count, &mut codes, &mut numbers) {
-        Counts::Refused(refusal) => plate_print::print_refusal(refusal, out),
-        Counts::Of(n, m) => print_measured(&codes[..n], &numbers[..m], out),
+        Err(refusal) => plate_print::print_refusal(refusal, out),
+        Ok(size) => print_measured(&codes[..size.codes], &numbers[..size.numbers], out),
     }
 }
 

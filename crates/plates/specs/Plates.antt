@@ -1,9 +1,9 @@
 -- The worked examples that document 01 stars, in its order ('Plates from the drawer'), as one list of inputs and outputs. Definitions only.
-use Rattle.std.specs.Prelude.{ℕ, List, [], ◌∷◌, ◌++◌, map, Float}
+use Rattle.std.specs.Prelude.{ℕ, List, [], ◌∷◌, ◌++◌, map, Float, Ok}
 use Rattle.std.specs.Float.{binary32}
 use Rattle.std.specs.Float.Ieee.{of_bits}
 use Rattle.ieee.specs.Literal.{zero32, one32, hundred32}
-use Rattle.command.specs.Outcomes.{Outcome, accepted}
+use Rattle.command.specs.Outcomes.{Outcome}
 use Rattle.copies.specs.Order.{rising}
 use Rattle.plates.specs.Calls.{Input, trim, rectangle, path, order, copy, Output, ranges, of_length, commands, ordered, copied}
 
@@ -14,7 +14,7 @@ pub record Example : Type 0 where
 
 infix 10 ◌yields◌
 abbrev pub ◌yields◌ : Input → Output → Example
-i yields o = record { input = i; output = accepted o }
+i yields o = record { input = i; output = Ok o }
 
 -- The numbers of the list, each as the bit pattern of the f32 nearest to its decimal. This one is -0.0000001.
 abbrev pub tiny_back : Float

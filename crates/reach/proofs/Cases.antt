@@ -1,4 +1,5 @@
 -- Closed cases of the definition, computed. Assumes nothing.
+use Rattle.std.specs.Prelude.{Ok, Err}
 use mathlib.Core.Path.{◌≡◌, refl}
 use mathlib.Core.Bool.{Bool, true, false}
 use mathlib.Core.List.{List, [], ◌∷◌}
@@ -7,7 +8,7 @@ use lib.Ieee.{Float, nan, binary32, sub, le, of_bits}
 use Rattle.ieee.specs.Limit.{all_within}
 use Rattle.ieee.specs.Root.{hypot_of, isqrt}
 use Rattle.command.specs.declared.Refusal.TheVariants.{OutOfRange, Unlisted, OutOfBounds}
-use Rattle.command.specs.Outcomes.{Outcome, refused, accepted}
+use Rattle.command.specs.Outcomes.{Outcome}
 use Rattle.reader.specs.Read.{size_of_code, command_at, command_checks, read_command}
 use Rattle.judge.specs.Lists.{in_front, read_list, judge_list, place_of}
 use Rattle.curve.specs.Curve.{distance}
@@ -34,9 +35,9 @@ answers : ◌≡◌ {A = List (Outcome (Bool × ℕ))} (
     ∷ line (77 ∷ []) (f 0x40a0_0000) ∷ line (77 ∷ []) (f 0x40b0_0000) ∷ line [] (f 0x40a0_0000) ∷ line [] (f 0x40b0_0000)
     -- 0 is reached by none of a faulty list
     ∷ length_reaches (77 ∷ []) (nan ∷ []) (f 0) ∷ []) (
-    accepted (true, 0) ∷ accepted (true, 0) ∷ accepted (true, 2) ∷ accepted (true, 5) ∷ accepted (false, 5)
-    ∷ accepted (true, 2) ∷ refused Unlisted ∷ accepted (true, 2) ∷ refused OutOfBounds
-    ∷ accepted (true, 0) ∷ [])
+    Ok (true, 0) ∷ Ok (true, 0) ∷ Ok (true, 2) ∷ Ok (true, 5) ∷ Ok (false, 5)
+    ∷ Ok (true, 2) ∷ Err Unlisted ∷ Ok (true, 2) ∷ Err OutOfBounds
+    ∷ Ok (true, 0) ∷ [])
 unfolding sub of_bits le hypot_of isqrt all_within distance start_pen move_to line_to close step steps length_after path_length
     size_of_code command_at command_checks read_command in_front read_list judge_list place_of measure_list
     first_length long_enough one_more fewest yes_or_no is_length length_reaches
@@ -44,6 +45,6 @@ answers = refl
 
 -- what is negative, infinite or no number is no length
 no_lengths : ◌≡◌ {A = List (Outcome (Bool × ℕ))} (square (f 0xbf80_0000) ∷ square (f 0x7f80_0000) ∷ square (f 0xff80_0000) ∷ square nan ∷ [])
-    (refused OutOfRange ∷ refused OutOfRange ∷ refused OutOfRange ∷ refused OutOfRange ∷ [])
+    (Err OutOfRange ∷ Err OutOfRange ∷ Err OutOfRange ∷ Err OutOfRange ∷ [])
 unfolding of_bits le is_length length_reaches
 no_lengths = refl

@@ -1,5 +1,6 @@
 -- A command list whose numbers are on a grid, asked for a length, and the same list enlarged by a power of two, asked for that length multiplied: one answer.
 -- Assumes nothing.
+use Rattle.std.specs.Prelude.{Ok}
 use mathlib.Core.Path.{◌≡◌, refl, sym, ap, ap₂, subst, ◌∙◌}
 use mathlib.Core.Bool.{false, ◌&&◌}
 use mathlib.Core.List.{List}
@@ -16,7 +17,7 @@ use Rattle.ieee.proofs.Comparison.{le_scale}
 use Rattle.ieee.proofs.Monotone.{zero_is}
 use Rattle.command.specs.declared.PathCommand.{PathCommand}
 use Rattle.command.specs.Commands.{codes_of, numbers_of}
-use Rattle.command.specs.Outcomes.{accepted, mapped}
+use Rattle.command.specs.Outcomes.{mapped}
 use Rattle.command.specs.Enlarged.{Twins}
 use Rattle.command.proofs.Enlarged.{twins_codes, twins_grid}
 use Rattle.judge.specs.Lists.{read_list}
@@ -58,10 +59,10 @@ module _ {k q b : ℕ} {cs cs' : List PathCommand} (t : Twins k q b cs cs') wher
       (λ few right. absurd (subst T (sym right ∙ e) tt))
 
   module _ (Q : q + 56 ≤ 149) (K : b + 55 + k ≤ 127) (B : b + k ≤ 22) (least : Float) where
-    read_first : read_list (codes_of cs) (numbers_of cs) ≡ accepted cs
+    read_first : read_list (codes_of cs) (numbers_of cs) ≡ Ok cs
     read_first = grid_read q b cs (omega arith) t.grid
 
-    read_enlarged : read_list (codes_of cs') (numbers_of cs') ≡ accepted cs'
+    read_enlarged : read_list (codes_of cs') (numbers_of cs') ≡ Ok cs'
     read_enlarged = grid_read q (b + k) cs' B (twins_grid t)
 
     module _ (few : length (codes_of cs) ≤ 262144) where
@@ -77,7 +78,7 @@ module _ {k q b : ℕ} {cs cs' : List PathCommand} (t : Twins k q b cs cs') wher
           ∙ sym (enough_accepted (codes_of cs) (numbers_of cs) least few n cs read_first)
 
       -- the reply does not hang on how long the whole list is
-      reply_same : (o : Option ℕ) (all : ℕ) (x y : Float) → yes_or_no o all (accepted x) ≡ yes_or_no o all (accepted y)
+      reply_same : (o : Option ℕ) (all : ℕ) (x y : Float) → yes_or_no o all (Ok x) ≡ yes_or_no o all (Ok y)
       unfolding yes_or_no
       reply_same none all x y = refl
       reply_same (some n) all x y = refl

@@ -1,4 +1,5 @@
 -- What a call comes to where the checks pass, and where one does not. Assumes nothing.
+use Rattle.std.specs.Prelude.{Err}
 use mathlib.Core.Path.{◌≡◌, refl, sym, ◌∙◌}
 use mathlib.Core.Bool.{Bool, true, false}
 use mathlib.Core.List.{List}
@@ -9,7 +10,7 @@ use lib.Ieee.{Float}
 use lib.ListN.{length}
 use borrow.Author.Tests.{lt-ltb, le-ltb, ltb-true, ltb-false}
 use Rattle.command.specs.declared.Refusal.TheVariants.{TooMany, OutOfRange}
-use Rattle.command.specs.Outcomes.{Outcome, refused, checked}
+use Rattle.command.specs.Outcomes.{Outcome, checked}
 use Rattle.length.specs.Lists.{measure_list}
 use Rattle.reach.specs.Reach.{long_enough, fewest, yes_or_no, is_length, reach_checks, length_reaches}
 
@@ -22,11 +23,11 @@ module _ (codes : List ℕ) (numbers : List Float) (least : Float) where
   unfolding length_reaches
   reach_is = refl
 
-  pub reach_many : 262144 < length codes → length_reaches codes numbers least ≡ refused TooMany
+  pub reach_many : 262144 < length codes → length_reaches codes numbers least ≡ Err TooMany
   reach_many many = reach_is ∙ rw (lt-ltb 262144 (length codes) many)
 
   module _ (few : length codes ≤ 262144) where
-    pub reach_unasked : is_length least ≡ false → length_reaches codes numbers least ≡ refused OutOfRange
+    pub reach_unasked : is_length least ≡ false → length_reaches codes numbers least ≡ Err OutOfRange
     reach_unasked wrong = reach_is ∙ rw (le-ltb 262144 (length codes) few, wrong)
 
     pub reach_passed : is_length least ≡ true → length_reaches codes numbers least ≡ ruled

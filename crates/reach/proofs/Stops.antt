@@ -1,4 +1,5 @@
 -- The laws that specs/Stops.antt states. Assumes nothing.
+use Rattle.std.specs.Prelude.{Ok, Err}
 use mathlib.Core.Path.{◌≡◌, refl, sym, ap, ◌∙◌, subst}
 use mathlib.Core.Bool.{Bool, true, false}
 use mathlib.Core.List.{List, [], ◌∷◌}
@@ -16,7 +17,7 @@ use Rattle.ieee.specs.Literal.{zero32}
 use Rattle.ieee.proofs.Order as Order
 use Rattle.command.specs.declared.PathCommand.{PathCommand}
 use Rattle.command.specs.declared.Refusal.TheVariants.{TooMany}
-use Rattle.command.specs.Outcomes.{Outcome, refused, accepted, mapped, value_or}
+use Rattle.command.specs.Outcomes.{Outcome, mapped, value_or}
 use Rattle.command.proofs.Outcomes.{refused_accepted, checks_passed}
 use Rattle.command.proofs.Lists.{codes_length}
 use Rattle.reader.specs.Read.{size_of_code}
@@ -39,11 +40,11 @@ abbrev said : Outcome (Bool × ℕ) → Outcome Bool
 said o = mapped (λ (reply : Bool × ℕ). reply.0) o
 
 -- a yes and a no are two things
-yes_is_no : {A : Type 0} (n m : ℕ) → ◌≡◌ {A = Outcome (Bool × ℕ)} (accepted (true, n)) (accepted (false, m)) → A
+yes_is_no : {A : Type 0} (n m : ℕ) → ◌≡◌ {A = Outcome (Bool × ℕ)} (Ok (true, n)) (Ok (false, m)) → A
 yes_is_no n m e = absurd (subst T (ap (λ (o : Outcome (Bool × ℕ)). value_or true (said o)) e) tt)
 
 -- as many commands
-as_many : (b d : Bool) (n m : ℕ) → ◌≡◌ {A = Outcome (Bool × ℕ)} (accepted (b, n)) (accepted (d, m)) → n ≡ m
+as_many : (b d : Bool) (n m : ℕ) → ◌≡◌ {A = Outcome (Bool × ℕ)} (Ok (b, n)) (Ok (d, m)) → n ≡ m
 as_many b d n m e = ap (λ (o : Outcome (Bool × ℕ)). value_or 0 (mapped commands_read o)) e
 
 -- ---- 'the fewest'
@@ -52,24 +53,24 @@ module _ (codes : List ℕ) (numbers : List Float) (least : Float) where
   test = long_enough codes numbers least
 
   -- the checks are passed where there is a reply
-  replied : (reply : Bool × ℕ) → length_reaches codes numbers least ≡ accepted reply → (is_length least ≡ true) × (ruled codes numbers least ≡ accepted reply)
+  replied : (reply : Bool × ℕ) → length_reaches codes numbers least ≡ Ok reply → (is_length least ≡ true) × (ruled codes numbers least ≡ Ok reply)
   replied reply e =
       let p = checks_passed (reach_checks codes least) (ruled codes numbers least) reply (sym (reach_is codes numbers least) ∙ e) in
       (let pass = p.0 in search not-false, p.1)
 
-  yes_ruled : (n : ℕ) → Least test n → n ≤ length codes → ruled codes numbers least ≡ accepted (true, n)
+  yes_ruled : (n : ℕ) → Least test n → n ≤ length codes → ruled codes numbers least ≡ Ok (true, n)
   unfolding yes_or_no
   yes_ruled n L h = ap (λ (o : Option ℕ). yes_or_no o (length codes) (measure_list codes numbers)) (fewest_least test (length codes) n L h)
 
-  ruled_yes : (n : ℕ) → ruled codes numbers least ≡ accepted (true, n) → Least test n × (n ≤ length codes)
+  ruled_yes : (n : ℕ) → ruled codes numbers least ≡ Ok (true, n) → Least test n × (n ≤ length codes)
   unfolding yes_or_no
   ruled_yes n e = go (fewest test (length codes)) refl (measure_list codes numbers) e
     where
-      go : (o : Option ℕ) → fewest test (length codes) ≡ o → (measured : Outcome Float) → yes_or_no o (length codes) measured ≡ accepted (true, n)
+      go : (o : Option ℕ) → fewest test (length codes) ≡ o → (measured : Outcome Float) → yes_or_no o (length codes) measured ≡ Ok (true, n)
           → Least test n × (n ≤ length codes)
       go (some m) f measured g = ((fewest_is_least test (length codes)).0 n).0 (f ∙ ap some (as_many true true m n g))
-      go none f (refused r) g = refused_accepted r (true, n) g
-      go none f (accepted x) g = yes_is_no n _ (sym g)
+      go none f (Err r) g = refused_accepted r (true, n) g
+      go none f (Ok x) g = yes_is_no n _ (sym g)
 
 pub yes_after_fewest : YesAfterFewest
 yes_after_fewest codes numbers least n few right = (
@@ -83,10 +84,10 @@ unfolding yes_or_no
 no_after_all codes numbers least n e =
     go (fewest (long_enough codes numbers least) (length codes)) (measure_list codes numbers) (replied codes numbers least (false, n) e).1
   where
-    go : (o : Option ℕ) (measured : Outcome Float) → yes_or_no o (length codes) measured ≡ accepted (false, n) → n ≡ length codes
+    go : (o : Option ℕ) (measured : Outcome Float) → yes_or_no o (length codes) measured ≡ Ok (false, n) → n ≡ length codes
     go (some m) measured g = yes_is_no m n g
-    go none (refused r) g = refused_accepted r (false, n) g
-    go none (accepted x) g = sym (as_many false false (length codes) n g)
+    go none (Err r) g = refused_accepted r (false, n) g
+    go none (Ok x) g = sym (as_many false false (length codes) n g)
 
 -- ---- 'L = 0 is yes after none'
 none_long : (codes : List ℕ) (numbers : List Float) (least : Float) → length codes ≤ 262144 → long_enough codes numbers least 0 ≡ le least zero32
@@ -102,7 +103,7 @@ zero_after_none codes numbers least few right e =
 
 -- ---- 'the reply that comparing its full length gives'
 module _ (codes : List ℕ) (numbers : List Float) (least : Float) (few : length codes ≤ 262144) (ps : List PathCommand)
-    (e : read_list codes numbers ≡ accepted ps) where
+    (e : read_list codes numbers ≡ Ok ps) where
   -- after all commands
   all_read : path_length (take (length codes) ps) ≡ path_length ps
   all_read =
@@ -126,34 +127,34 @@ module _ (codes : List ℕ) (numbers : List Float) (least : Float) (few : length
           ∙ f
 
   as_measured : (x : Float)
-      → said (yes_or_no (fewest (test codes numbers least) (length codes)) (length codes) (accepted x)) ≡ accepted (le least (path_length ps))
+      → said (yes_or_no (fewest (test codes numbers least) (length codes)) (length codes) (Ok x)) ≡ Ok (le least (path_length ps))
   unfolding yes_or_no
   as_measured x = go (le least (path_length ps)) refl (fewest (test codes numbers least) (length codes)) refl
     where
       go : (b : Bool) → le least (path_length ps) ≡ b → (o : Option ℕ) → fewest (test codes numbers least) (length codes) ≡ o
-          → said (yes_or_no o (length codes) (accepted x)) ≡ accepted b
+          → said (yes_or_no o (length codes) (Ok x)) ≡ Ok b
       go true f (some n) g = refl
       go true f none g =
           let never = (fewest_is_least (test codes numbers least) (length codes)).1.0 g (length codes) (le_refl (length codes)) in
-          ap accepted (sym never ∙ enough_all ∙ f)
+          ap Ok (sym never ∙ enough_all ∙ f)
       go false f none g = refl
       go false f (some n) g =
           let L = ((fewest_is_least (test codes numbers least) (length codes)).0 n).0 g in
-          ap accepted (sym L.0.holds ∙ short_before f n L.1)
+          ap Ok (sym L.0.holds ∙ short_before f n L.1)
 
 pub replies_as_measured : RepliesAsMeasured
 unfolding measure_list
 replies_as_measured codes numbers least x right e = go (judge_list codes numbers) refl e
   where
-    go : (o : Outcome (List PathCommand)) → judge_list codes numbers ≡ o → mapped path_length o ≡ accepted x
-        → said (length_reaches codes numbers least) ≡ accepted (le least x)
-    go (refused r) p f = refused_accepted r x f
-    go (accepted ps) p f =
+    go : (o : Outcome (List PathCommand)) → judge_list codes numbers ≡ o → mapped path_length o ≡ Ok x
+        → said (length_reaches codes numbers least) ≡ Ok (le least x)
+    go (Err r) p f = refused_accepted r x f
+    go (Ok ps) p f =
         let j = judged_read codes numbers ps p in
         let is : path_length ps ≡ x = cc in
         ap said (reach_passed codes numbers least j.0 right ∙ ap (yes_or_no (fewest (long_enough codes numbers least) (length codes)) (length codes)) e)
         ∙ as_measured codes numbers least j.0 ps j.1 x
-        ∙ ap (λ (y : Float). accepted (le least y)) is
+        ∙ ap (λ (y : Float). Ok (le least y)) is
 
 -- ---- 'what lies past the stopping place goes unseen'
 place_front : (m : ℕ) (codes : List ℕ) → place_of m (take m codes) ≡ place_of m codes
@@ -202,16 +203,16 @@ pub refused_as_measured : RefusedAsMeasured
 unfolding yes_or_no
 refused_as_measured codes numbers least r right e = go (ltb 262144 (length codes)) refl
   where
-    faulty : (o : Option ℕ) (measured : Outcome Float) → yes_or_no o (length codes) measured ≡ refused r → measured ≡ refused r
+    faulty : (o : Option ℕ) (measured : Outcome Float) → yes_or_no o (length codes) measured ≡ Err r → measured ≡ Err r
     faulty (some n) measured g = refused_accepted r (true, n) (sym g)
-    faulty none (refused s) g = let same : s ≡ r = cc in ap refused same
-    faulty none (accepted x) g = refused_accepted r _ (sym g)
+    faulty none (Err s) g = let same : s ≡ r = cc in ap Err same
+    faulty none (Ok x) g = refused_accepted r _ (sym g)
 
-    go : (b : Bool) → ltb 262144 (length codes) ≡ b → measure_list codes numbers ≡ refused r
+    go : (b : Bool) → ltb 262144 (length codes) ≡ b → measure_list codes numbers ≡ Err r
     go true f =
         let many = ltb-true 262144 (length codes) f in
         let same : TooMany ≡ r = cc (reach_many codes numbers least many) in
-        sym (length_many codes numbers many) ∙ ap refused same
+        sym (length_many codes numbers many) ∙ ap Err same
     go false f =
         faulty (fewest (long_enough codes numbers least) (length codes)) (measure_list codes numbers)
         (sym (reach_passed codes numbers least (ltb-false 262144 (length codes) f) right) ∙ e)

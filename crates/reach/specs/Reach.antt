@@ -1,16 +1,14 @@
 -- Long enough yet: document 02, U3. 'Stop reading at the first command whose running length reaches L, and report how many commands were read'.
 -- Definitions only.
-use Rattle.std.specs.Prelude.{ℕ, zero, suc, ◌≡◌, Bool, true, false, cond, not, ◌&&◌, List, [], ◌∷◌, ltb, Float, length, take}
+use Rattle.std.specs.Prelude.{ℕ, zero, suc, ◌≡◌, Bool, true, false, cond, not, ◌&&◌, List, [], ◌∷◌, ltb, Float, length, take, Ok, Err}
 use Rattle.std.proofs.Math.Option.{Option, none, some}
 use Rattle.std.specs.Float.Ieee.{le}
 use Rattle.std.specs.Float.Ieee.Scale.{finite}
 use Rattle.ieee.specs.Literal.{zero32}
 use Rattle.command.specs.declared.Refusal.TheVariants.{TooMany, OutOfRange}
-use Rattle.command.specs.Outcomes.{Outcome, refused, accepted, mapped, value_or, Check, ◌gives◌, checked, Told}
+use Rattle.command.specs.Outcomes.{Outcome, mapped, value_or, Check, ◌gives◌, checked, Told}
 use Rattle.judge.specs.Lists.{most_commands, place_of}
 use Rattle.length.specs.Lists.{measure_list}
-use Rattle.reach.specs.declared.Reply.{Reply}
-use Rattle.reach.specs.declared.Reply.TheVariants.{Refused, Yes, No}
 
 -- ---- 'the fewest whose length is at least L'
 
@@ -37,7 +35,7 @@ fewest test (suc last) = cond (test 0) (some 0) (one_more (fewest (λ (n : ℕ).
 -- Yes after the fewest: what lies past them goes unseen, numbers left over too. Where none are long enough the list is refused as the length refuses it,
 -- or else the reply is no, after all of them.
 unfoldable pub yes_or_no : Option ℕ → ℕ → Outcome Float → Outcome (Bool × ℕ)
-yes_or_no (some n) all measured = accepted (true, n)
+yes_or_no (some n) all measured = Ok (true, n)
 yes_or_no none all measured = mapped (λ (x : Float). (false, all)) measured
 
 -- L 'must be finite and not negative'; a -0 is 0
@@ -51,12 +49,6 @@ reach_checks codes least = (ltb most_commands (length codes) gives TooMany) ∷ 
 unfoldable pub length_reaches : List ℕ → List Float → Float → Outcome (Bool × ℕ)
 length_reaches codes numbers least =
     checked (reach_checks codes least) (yes_or_no (fewest (long_enough codes numbers least) (length codes)) (length codes) (measure_list codes numbers))
-
--- the outcome that a `Reply` is
-abbrev pub reply_of : Reply → Outcome (Bool × ℕ)
-reply_of (Refused r) = refused r
-reply_of (Yes n) = accepted (true, n)
-reply_of (No n) = accepted (false, n)
 
 -- ---- what the call promises
 

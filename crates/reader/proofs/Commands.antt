@@ -1,4 +1,5 @@
 -- A command that is written as a code and numbers reads back as itself, and what is read has that code and those numbers. Assumes nothing.
+use Rattle.std.specs.Prelude.{Ok, Err}
 use mathlib.Core.Path.{◌≡◌, refl, sym, ap, ◌∙◌}
 use mathlib.Core.Bool.{Bool, true, false, cond}
 use mathlib.Core.List.{List, [], ◌∷◌, ◌++◌, append-nil}
@@ -15,11 +16,9 @@ use Rattle.command.specs.declared.PathCommand.{PathCommand}
 use Rattle.command.specs.declared.PathCommand.TheVariants.{Move, Line, Cubic, Close, Quad}
 use Rattle.command.specs.Commands.{code_of, coordinates_of, command_limit}
 use Rattle.command.specs.declared.Refusal.{Refusal}
-use Rattle.command.specs.Outcomes.{Outcome, refused, accepted, mapped, value_or}
+use Rattle.command.specs.Outcomes.{Outcome, mapped, value_or}
 use Rattle.command.proofs.Outcomes.{refused_accepted, checks_passed}
-use Rattle.reader.specs.declared.Read.{Read}
-use Rattle.reader.specs.declared.Read.TheVariants.{Refused, Command}
-use Rattle.reader.specs.Read.{size_of_code, command_at, command_checks, read_command, read_from, read_of}
+use Rattle.reader.specs.Read.{size_of_code, command_at, command_checks, read_command, read_from}
 
 pub size_of : (c : PathCommand) → size_of_code (code_of c) ≡ length (coordinates_of c)
 unfolding size_of_code
@@ -55,7 +54,7 @@ size_most c = go (ltb c 2) (eqb c 2) (eqb c 4)
     go false false false = omega arith
 
 -- the checks of a command that is read, all passed
-pub read_accepted : (c : ℕ) (v : List Float) → c ≤ 4 → size_of_code c ≤ length v → all_within command_limit (take (size_of_code c) v) ≡ true → read_command c v ≡ accepted (command_at c v)
+pub read_accepted : (c : ℕ) (v : List Float) → c ≤ 4 → size_of_code c ≤ length v → all_within command_limit (take (size_of_code c) v) ≡ true → read_command c v ≡ Ok (command_at c v)
 unfolding read_command command_checks
 read_accepted c v a b d = rw (le-ltb 4 c a, le-ltb (length v) (size_of_code c) b, d)
 
@@ -66,10 +65,10 @@ pub record Accepted (c : ℕ) (v : List Float) (command : PathCommand) : Type 0 
   pub within : all_within command_limit (take (size_of_code c) v) ≡ true
   pub is : command ≡ command_at c v
 
-pub accepted_read : (c : ℕ) (v : List Float) (command : PathCommand) → read_command c v ≡ accepted command → Accepted c v command
+pub accepted_read : (c : ℕ) (v : List Float) (command : PathCommand) → read_command c v ≡ Ok command → Accepted c v command
 unfolding read_command command_checks
 accepted_read c v command e =
-    let p = checks_passed (command_checks c v) (accepted (command_at c v)) command e in
+    let p = checks_passed (command_checks c v) (Ok (command_at c v)) command e in
     record {
       listed = omega (arith, ltb-false, p.0);
       inside = omega (arith, ltb-false, p.0);
@@ -78,12 +77,12 @@ accepted_read c v command e =
     }
 
 -- a command in front of other numbers
-pub command_read : (c : PathCommand) (v : List Float) → all_within command_limit (coordinates_of c) ≡ true → read_command (code_of c) (coordinates_of c ++ v) ≡ accepted c
+pub command_read : (c : PathCommand) (v : List Float) → all_within command_limit (coordinates_of c) ≡ true → read_command (code_of c) (coordinates_of c ++ v) ≡ Ok c
 command_read c v h =
     let w : List Float = coordinates_of c ++ v in
     let front : take (size_of_code (code_of c)) w ≡ coordinates_of c = ap (λ (n : ℕ). take n w) (size_of c) ∙ take-append_seam (coordinates_of c) v in
     let long : size_of_code (code_of c) ≤ length w = rw (size_of c, length-append (coordinates_of c) v) (omega arith) in
-    read_accepted (code_of c) w (listed c) long (ap (all_within command_limit) front ∙ h) ∙ ap accepted (command_of c v)
+    read_accepted (code_of c) w (listed c) long (ap (all_within command_limit) front ∙ h) ∙ ap Ok (command_of c v)
 
 -- the command read at the start of v has the code c, and its numbers are those of v
 pub code_at : (c : ℕ) (v : List Float) → c ≤ 4 → code_of (command_at c v) ≡ c
@@ -153,38 +152,38 @@ module _ (code : ℕ) (numbers : List Float) (place : ℕ) where
   abbrev after : PathCommand → PathCommand × ℕ
   after c = (c, place + size_of_code code)
 
-  refused_from : (r : Refusal) → refused r ≡ read_from code numbers place → read_command code (drop place numbers) ≡ refused r
+  refused_from : (r : Refusal) → Err r ≡ read_from code numbers place → read_command code (drop place numbers) ≡ Err r
   unfolding read_from
   refused_from r e = go (read_command code (drop place numbers)) e
     where
-      go : (o : Outcome PathCommand) → refused r ≡ mapped after o → o ≡ refused r
-      go (refused q) e = cc
-      go (accepted c) e = refused_accepted r (after c) e
+      go : (o : Outcome PathCommand) → Err r ≡ mapped after o → o ≡ Err r
+      go (Err q) e = cc
+      go (Ok c) e = refused_accepted r (after c) e
 
-  accepted_from : (at : PathCommand × ℕ) → accepted at ≡ read_from code numbers place
-      → (read_command code (drop place numbers) ≡ accepted at.0) × (at.1 ≡ place + size_of_code code)
+  accepted_from : (at : PathCommand × ℕ) → Ok at ≡ read_from code numbers place
+      → (read_command code (drop place numbers) ≡ Ok at.0) × (at.1 ≡ place + size_of_code code)
   unfolding read_from
   accepted_from at e = go (read_command code (drop place numbers)) e
     where
-      go : (o : Outcome PathCommand) → accepted at ≡ mapped after o → (o ≡ accepted at.0) × (at.1 ≡ place + size_of_code code)
-      go (refused q) e = refused_accepted q at (sym e)
-      go (accepted c) e =
+      go : (o : Outcome PathCommand) → Ok at ≡ mapped after o → (o ≡ Ok at.0) × (at.1 ≡ place + size_of_code code)
+      go (Err q) e = refused_accepted q at (sym e)
+      go (Ok c) e =
           let same : at ≡ after c = ap (value_or at) e in
-          (sym (ap (λ (x : PathCommand × ℕ). accepted x.0) same), ap (λ (x : PathCommand × ℕ). x.1) same)
+          (sym (ap (λ (x : PathCommand × ℕ). Ok x.0) same), ap (λ (x : PathCommand × ℕ). x.1) same)
 
   -- a command that is read, with the place after it as a `Read` has them
   pub record Taken (command : PathCommand) (next : ℕ) : Type 0 where
-    pub read_is : read_command code (drop place numbers) ≡ accepted command
+    pub read_is : read_command code (drop place numbers) ≡ Ok command
     pub inside : next ≤ length numbers
     pub rest : drop next numbers ≡ drop (size_of_code code) (drop place numbers)
 
-  module _ (read : Read) (is : read_of read ≡ read_from code numbers place) where
-    pub read_refused : (r : Refusal) → read ≡ Refused r → read_command code (drop place numbers) ≡ refused r
-    read_refused r e = refused_from r (sym (ap read_of e) ∙ is)
+  module _ (read : Outcome (PathCommand × ℕ)) (is : read ≡ read_from code numbers place) where
+    pub read_refused : (r : Refusal) → read ≡ Err r → read_command code (drop place numbers) ≡ Err r
+    read_refused r e = refused_from r (sym (e) ∙ is)
 
-    pub read_taken : place ≤ length numbers → (command : PathCommand) (next : ℕ) → read ≡ Command command next → Taken command next
+    pub read_taken : place ≤ length numbers → (command : PathCommand) (next : ℕ) → read ≡ Ok (command, next) → Taken command next
     read_taken h command next e =
-        let on = accepted_from (command, next) (sym (ap read_of e) ∙ is) in
+        let on = accepted_from (command, next) (sym (e) ∙ is) in
         let l = (accepted_read code (drop place numbers) command on.0).inside in
         record {
           read_is = on.0;

@@ -1,14 +1,12 @@
 -- One command as a code and the numbers from a place on: the order of its checks, and the command. Definitions only.
-use Rattle.std.specs.Prelude.{ℕ, ◌+◌, cond, not, List, [], ◌∷◌, eqb, ltb, Float, length, get_or, take, drop}
+use Rattle.std.specs.Prelude.{ℕ, ◌+◌, cond, not, List, [], ◌∷◌, eqb, ltb, Float, length, get_or, take, drop, Ok, Err}
 use Rattle.std.specs.Float.{nan}
 use Rattle.ieee.specs.Limit.{all_within}
 use Rattle.command.specs.declared.PathCommand.{PathCommand}
 use Rattle.command.specs.declared.PathCommand.TheVariants.{Move, Line, Cubic, Close, Quad}
 use Rattle.command.specs.declared.Refusal.TheVariants.{OutOfRange, Unlisted, OutOfBounds}
 use Rattle.command.specs.Commands.{command_limit}
-use Rattle.command.specs.Outcomes.{Outcome, refused, accepted, mapped, Check, ◌gives◌, checked}
-use Rattle.reader.specs.declared.Read.{Read}
-use Rattle.reader.specs.declared.Read.TheVariants.{Refused, Command}
+use Rattle.command.specs.Outcomes.{Outcome, mapped, Check, ◌gives◌, checked}
 
 -- how many numbers a command has: move 0 and line 1 two, cubic 2 six, close 3 none, quad 4 four
 unfoldable pub size_of_code : ℕ → ℕ
@@ -32,13 +30,8 @@ command_checks c v =
 
 -- then the command: numbers past its own are not read
 unfoldable pub read_command : ℕ → List Float → Outcome PathCommand
-read_command c v = checked (command_checks c v) (accepted (command_at c v))
+read_command c v = checked (command_checks c v) (Ok (command_at c v))
 
 -- the command whose numbers start at a place of a list, and the place after them
 unfoldable pub read_from : ℕ → List Float → ℕ → Outcome (PathCommand × ℕ)
 read_from code numbers place = mapped (λ (c : PathCommand). (c, place + size_of_code code)) (read_command code (drop place numbers))
-
--- the outcome that a `Read` is: the command, and the place after its numbers
-abbrev pub read_of : Read → Outcome (PathCommand × ℕ)
-read_of (Refused r) = refused r
-read_of (Command c next) = accepted (c, next)

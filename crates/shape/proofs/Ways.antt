@@ -1,4 +1,5 @@
 -- What each way out of a function of this crate owes, as the code meets it. Assumes nothing.
+use Rattle.std.specs.Prelude.{Ok}
 use mathlib.Core.Path.{◌≡◌, sym, ap, ◌∙◌}
 use mathlib.Core.Bool.{Bool, true, false, ◌&&◌, and-eq-true_iff}
 use mathlib.Core.List.{List}
@@ -17,7 +18,6 @@ use Rattle.command.specs.declared.PathCommand.TheVariants.{Close}
 use Rattle.command.specs.declared.Refusal.TheVariants.{BufferTooSmall}
 use Rattle.command.specs.Commands.{codes_of, numbers_of}
 use Rattle.command.specs.declared.Size.{Size}
-use Rattle.command.specs.Outcomes.{accepted}
 use Rattle.command.specs.Buffers.{fitted, in_buffers, FilledBoth, size_of, pair_of}
 use Rattle.command.proofs.Lists.{codes_length}
 use Rattle.command.proofs.Writes.{writes}
@@ -212,7 +212,7 @@ pub ruleset fittings = (both_held, none_held, fits_by_need, fits_anyway)
 
 -- ---- draw_shape
 module _ (cs : List PathCommand) (codes : List ℕ) (numbers : List Float) (t : Bool) (t_is : t ≡ in_buffers (length codes) (length numbers) cs) where
-  pub too_small : t ≡ false → FilledBoth (fitted (in_buffers (length codes) (length numbers)) (accepted cs)) 11 0 0 codes codes numbers numbers
+  pub too_small : t ≡ false → FilledBoth (fitted (in_buffers (length codes) (length numbers)) (Ok cs)) 11 0 0 codes codes numbers numbers
   too_small e = rw (fitted_refused (in_buffers (length codes) (length numbers)) cs (sym t_is ∙ e)) (both_unfilled BufferTooSmall codes numbers)
 
   module _ (e : t ≡ true) where
@@ -229,7 +229,7 @@ module _ (cs : List PathCommand) (codes : List ℕ) (numbers : List Float) (t : 
 
     pub all_written : (n m : ℕ) (codes' : List ℕ) (numbers' : List Float) → n ≡ 0 + length (codes_of cs) → m ≡ 0 + length (numbers_of cs)
         → codes' ≡ sets codes 0 (codes_of cs) → numbers' ≡ sets numbers 0 (numbers_of cs)
-        → FilledBoth (fitted (in_buffers (length codes) (length numbers)) (accepted cs)) 0 n m codes codes' numbers numbers'
+        → FilledBoth (fitted (in_buffers (length codes) (length numbers)) (Ok cs)) 0 n m codes codes' numbers numbers'
     all_written n m codes' numbers' n_is q c d =
         rw (fitted_accepted (in_buffers (length codes) (length numbers)) cs (sym t_is ∙ e))
         (record {

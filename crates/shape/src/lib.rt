@@ -4,12 +4,12 @@
 ghost use Rattle.std.specs.Prelude.{◌≡◌, true, ◌&&◌, ◌+◌, ◌≤◌, leb, length};
 ghost use Rattle.std.proofs.lemmas.List.Edits.{sets};
 ghost use Rattle.command.specs.Commands.{codes_of, numbers_of};
-ghost use Rattle.command.specs.Outcomes.{accepted, counts_number, first_count, second_count};
-ghost use Rattle.command.specs.Buffers.{fitted, in_buffers, FilledBoth, size_of, pair_of};
+ghost use Rattle.command.specs.Outcomes.{number_of};
+ghost use Rattle.command.specs.Buffers.{fitted, in_buffers, codes_told, numbers_told, FilledBoth, size_of, pair_of};
 ghost use Rattle.shape.specs.declared.Shape.TheVariants.{Path, Rect, Ellipse};
 ghost use Rattle.shape.specs.Shape.{bounds_of, shape_commands, Fit};
 
-use command::{Counts, Refusal, Size};
+use command::{Outcome, Refusal, Size};
 use rect::Bounds;
 
 // What is to be drawn, and what decides how much of it there is. Its numbers stand in a list beside it.
@@ -198,17 +198,17 @@ fn fits(shape: Shape, list: &[f32], codes: usize, numbers: usize) -> bool
 }
 
 // Writes a shape from the start of two buffers, if it fits them.
-pub fn draw_shape(shape: Shape, list: &[f32], codes: &mut [u8], numbers: &mut [f32]) -> Counts
+#[tactic(auto, using(crate::proofs::Ways::drawings))]
+pub fn draw_shape(shape: Shape, list: &[f32], codes: &mut [u8], numbers: &mut [f32]) -> Outcome<Size>
     requires { Fit shape list.now }
     ensures { FilledBoth
-        (fitted (in_buffers (length codes.old) (length numbers.old)) (accepted (shape_commands shape list.now)))
-        (counts_number result) (first_count result) (second_count result)
+        (fitted (in_buffers (length codes.old) (length numbers.old)) (Ok (shape_commands shape list.now)))
+        (number_of result) (codes_told result) (numbers_told result)
         codes.old codes.new numbers.old numbers.new }
 {
     if fits(shape, list, codes.len(), numbers.len()) {
-        let written = write_at(shape, list, codes, 0, numbers, 0);
-        Counts::Of(written.codes, written.numbers)
+        Ok(write_at(shape, list, codes, 0, numbers, 0))
     } else {
-        Counts::Refused(Refusal::BufferTooSmall)
+        Err(Refusal::BufferTooSmall)
     }
 }

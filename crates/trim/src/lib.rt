@@ -23,6 +23,9 @@ pub enum Ranges {
     Two(f32, f32),
 }
 
+// The step by which trims are rounded: places no further apart are one.
+const TRIM_STEP: f32 = 0.0001;
+
 // Not below 0 and not above 1.
 fn clamp_unit(x: f32) -> f32
     ensures { result ≡ spec.clamp_unit x }
@@ -31,6 +34,7 @@ fn clamp_unit(x: f32) -> f32
 }
 
 // The offset as a part of a turn.
+#[tactic(auto, unfolding(crate::specs::Trim::offset_of))]
 fn offset_of(degrees: f32) -> f32
     ensures { result ≡ spec.offset_of degrees }
 {
@@ -38,104 +42,92 @@ fn offset_of(degrees: f32) -> f32
 }
 
 // A percentage as a place from 0 to 1, moved on by the offset.
+#[tactic(auto, unfolding(crate::specs::Trim::placed_at))]
 fn placed_at(percent: f32, offset: f32) -> f32
     ensures { result ≡ spec.placed_at percent offset }
 {
     clamp_unit(percent / 100.0) + offset
 }
 
-// x rounded to 0.0001.
+// x rounded to the step.
+#[tactic(auto, unfolding(crate::specs::Trim::snapped))]
 fn snapped(x: f32) -> f32
     ensures { result ≡ spec.snapped x }
 {
-    whole::round(x * 10000.0) * 0.0001
+    whole::round(x * 10000.0) * TRIM_STEP
 }
 
-// At most 0.0001 apart.
+// At most a step apart.
+#[tactic(auto, unfolding(crate::specs::Trim::near))]
 fn is_near(a: f32, b: f32) -> bool
     ensures { result ≡ spec.near a b }
 {
-    float::is_within(a - b, 0.0001)
+    float::is_within(a - b, TRIM_STEP)
 }
 
 // Start near a, and end near b.
+#[tactic(auto, unfolding(crate::specs::Trim::near_both))]
 fn are_near(start: f32, end: f32, a: f32, b: f32) -> bool
     ensures { result ≡ spec.near_both start end a b }
 {
-    if is_near(start, a) {
-        is_near(end, b)
-    } else {
-        false
-    }
+    is_near(start, a) && is_near(end, b)
 }
 
 // From 0 to 1, or from 1 back to 0.
+#[tactic(auto, unfolding(crate::specs::Trim::is_whole))]
 fn is_whole(start: f32, end: f32) -> bool
     ensures { result ≡ spec.is_whole start end }
 {
-    if are_near(start, end, 0.0, 1.0) {
-        true
-    } else {
-        are_near(start, end, 1.0, 0.0)
-    }
+    are_near(start, end, 0.0, 1.0) || are_near(start, end, 1.0, 0.0)
 }
 
 // The ranges from start to end, which may go past 1.
+#[tactic(auto, unfolding(crate::specs::Trim::ranges_between))]
 fn ranges_between(start: f32, end: f32) -> Ranges
     ensures { result ≡ spec.ranges_between start end }
 {
     if is_near(start, end) {
-        return Ranges::Nothing;
+        Ranges::Nothing
+    } else if is_whole(start, end) {
+        Ranges::One(0.0, 1.0)
+    } else if end <= 1.0 {
+        Ranges::One(clamp_unit(start), clamp_unit(end))
+    } else if start >= 1.0 {
+        Ranges::One(clamp_unit(start - 1.0), clamp_unit(end - 1.0))
+    } else {
+        Ranges::Two(clamp_unit(start), clamp_unit(end - 1.0))
     }
-    if is_whole(start, end) {
-        return Ranges::One(0.0, 1.0);
-    }
-    if end <= 1.0 {
-        return Ranges::One(clamp_unit(start), clamp_unit(end));
-    }
-    if start >= 1.0 {
-        return Ranges::One(clamp_unit(start - 1.0), clamp_unit(end - 1.0));
-    }
-    Ranges::Two(clamp_unit(start), clamp_unit(end - 1.0))
 }
 
-// The two in order.
-fn lower(start: f32, end: f32) -> f32
-    ensures { result ≡ spec.lower start end }
+// The two in order, the lower first.
+#[tactic(auto, unfolding(crate::specs::Trim::lower, crate::specs::Trim::upper))]
+fn in_order(start: f32, end: f32) -> (f32, f32)
+    ensures { result ≡ (spec.lower start end, spec.upper start end) }
 {
-    if start > end { end } else { start }
+    if start > end {
+        (end, start)
+    } else {
+        (start, end)
+    }
 }
 
-fn upper(start: f32, end: f32) -> f32
-    ensures { result ≡ spec.upper start end }
-{
-    if start > end { start } else { end }
-}
-
+#[tactic(auto, unfolding(crate::specs::Trim::normalized_trim_segments))]
 pub fn normalized_trim_segments(trim: TrimStyle) -> Ranges
     ensures { result ≡ spec.normalized_trim_segments trim }
 {
     let offset = offset_of(trim.offset_degrees);
     let start = placed_at(trim.start, offset);
     let end = placed_at(trim.end, offset);
-    ranges_between(snapped(lower(start, end)), snapped(upper(start, end)))
+    let (lower, upper) = in_order(start, end);
+    ranges_between(snapped(lower), snapped(upper))
 }
 
 // Whether the ranges are marked as the whole path.
+#[tactic(auto, unfolding(crate::specs::Trim::is_full_trim_segments))]
 pub fn is_full_trim_segments(ranges: Ranges) -> bool
     ensures { result ≡ spec.is_full_trim_segments ranges }
 {
-    match ranges {
-        Ranges::Nothing => false,
-        Ranges::One(start, end) => {
-            if start <= 0.0001 {
-                is_near(1.0, end)
-            } else {
-                false
-            }
-        }
-        Ranges::Two(_, _) => false,
-    }
+    matches!(ranges, Ranges::One(start, end) if start <= TRIM_STEP && is_near(1.0, end))
 }
 
 // How many ranges there are.

@@ -1,28 +1,12 @@
 -- `copies::copy_order` meets its contract. Assumes nothing.
-use borrow.Author.Rules.{rules}
-use Rattle.copies.proofs.Ways.{calls}
+use Rattle.std.proofs.lemmas.Result.{err_from_is_err_and}
+use Rattle.copies.proofs.Ways.{order_refused, order_passed}
 use Rattle.copies.proofs.copy_order.Goals as goal
 
-pub check_repeater-requires : goal.check_repeater-requires
-check_repeater-requires c = search (rules, calls)
+pub returns-in_err-check_repeater : goal.returns-in_err-check_repeater
+returns-in_err-check_repeater c =
+    let p = err_from_is_err_and c.from_residual.result c.from_residual.ensures.1 in
+    rw (p.1, p.2) (order_refused c.args.repeater c.check_repeater.result c.check_repeater.ensures _ c.in_err-check_repeater.was _)
 
-pub enum_known-refusal : goal.enum_known-refusal
-enum_known-refusal c = search (rules, calls)
-
-pub enum_told-1 : goal.enum_told-1
-enum_told-1 c = search (rules, calls)
-
-pub copy_count-n-requires : goal.copy_count-n-requires
-copy_count-n-requires c = search (rules, calls)
-
-pub write_order-requires : goal.write_order-requires
-write_order-requires c = search (rules, calls)
-
-pub returns-in-Refused : goal.returns-in-Refused
-returns-in-Refused c = search (rules, calls)
-
-pub shape_of-order : goal.shape_of-order
-shape_of-order c = search (rules, calls)
-
-pub returns-in-Passed : goal.returns-in-Passed
-returns-in-Passed c = search (rules, calls)
+pub returns : goal.returns
+returns c = order_passed _ _ c.check_repeater.ensures c.in_ok-check_repeater.was _ _ _ c.copy_count-n.ensures.0 _ _ c.write_order.ensures

@@ -1,11 +1,7 @@
 -- The loops of `judge::place_of`.
 use mathlib.Core.Path.{◌≡◌}
-use Prim.Native.Nat.{◌-◌, ◌≤◌}
 use Rattle.judge.specs.Lists.{place_of}
 use Rattle.judge.proofs.place_of.Given as goal
 
-abbrev pub invariant-loop-i : goal.invariant-loop-i
-invariant-loop-i l = (l.place ≡ place_of l.i l.codes) × (l.i ≤ l.k)
-
-abbrev pub decreases-loop-i : goal.decreases-loop-i
-decreases-loop-i l = l.k - l.i
+abbrev pub invariant-loop-code : goal.invariant-loop-code
+invariant-loop-code l = l.place ≡ place_of l.code-index l.before

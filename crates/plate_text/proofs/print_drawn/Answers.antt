@@ -37,10 +37,10 @@ pub print_measured-requires : goal.print_measured-requires
 print_measured-requires c = search (rules, drawing)
 
 pub shape_of-out-in-Refused : goal.shape_of-out-in-Refused
-shape_of-out-in-Refused c = search (rules, drawing)
+shape_of-out-in-Err c = search (rules, drawing)
 
 pub returns-in-Refused : goal.returns-in-Refused
-returns-in-Refused c = record { value = search (rules, drawing); out_after = search (rules, drawing) }
+returns-in-Err c = record { value = search (rules, drawing); out_after = search (rules, drawing) }
 
 pub shape_of-out-in-Of : goal.shape_of-out-in-Of
 shape_of-out-in-Of c = search (rules, drawing)

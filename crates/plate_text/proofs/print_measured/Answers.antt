@@ -19,13 +19,13 @@ pub print_answer-requires : goal.print_answer-requires
 print_answer-requires c = record { codes_in_bounds = search (rules, measuring); codes_in_bounds_2 = search (rules, measuring) }
 
 pub shape_of-out-in-Refused : goal.shape_of-out-in-Refused
-shape_of-out-in-Refused c = search (rules, measuring)
+shape_of-out-in-Err c = search (rules, measuring)
 
 pub returns-in-Refused : goal.returns-in-Refused
-returns-in-Refused c = record { value = search (rules, measuring); out_after = search (rules, measuring) }
+returns-in-Err c = record { value = search (rules, measuring); out_after = search (rules, measuring) }
 
 pub shape_of-out-in-Length : goal.shape_of-out-in-Length
-shape_of-out-in-Length c = search (rules, measuring)
+shape_of-out-in-Ok c = search (rules, measuring)
 
 pub returns-in-Length : goal.returns-in-Length
-returns-in-Length c = record { value = search (rules, measuring); out_after = search (rules, measuring) }
+returns-in-Ok c = record { value = search (rules, measuring); out_after = search (rules, measuring) }

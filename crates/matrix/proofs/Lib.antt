@@ -1,0 +1,2 @@
+-- What callers of `matrix` cite.
+pub mod Rotation
