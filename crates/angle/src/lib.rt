@@ -27,6 +27,7 @@ fn sixteenths(degrees: f32) -> u64
 }
 
 // Where an angle of at most 1,048,576 degrees points, in sixteenths of a degree from 0 to 5,759.
+#[tactic(auto, using(crate::proofs::Reduced::turned_back, crate::proofs::Reduced::turned_forth))]
 pub fn turn(degrees: f32) -> usize
     requires { within number_limit degrees ≡ true }
     ensures { (result ≡ turn_of degrees) × (result < 5760) }
@@ -36,6 +37,7 @@ pub fn turn(degrees: f32) -> usize
 }
 
 // The f32 nearest to an entry of the table of sines over 2^30, with a sign. The quotient is exact.
+#[tactic(auto, using(crate::proofs::Entries::entries))]
 fn ratio(minus: bool, entry: u32) -> f32
     requires { entry ≤ 2 ^ 30 }
     ensures { result ≡ Ieee.round binary32 minus entry (2 ^ 30) }
@@ -45,6 +47,7 @@ fn ratio(minus: bool, entry: u32) -> f32
 }
 
 // The direction of a reduced angle.
+#[tactic(auto, using(crate::proofs::Directions::direction_way))]
 pub fn direction_at(turn: usize) -> Direction
     requires { turn < 5760 }
     ensures { result ≡ direction_of turn }

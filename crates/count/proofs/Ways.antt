@@ -5,21 +5,19 @@ use mathlib.Core.Bool.{Bool, true, false, cond}
 use Prim.Native.Nat.{ℕ, ◌+◌, ◌-◌, ◌*◌, ◌^◌, ◌≤◌, ◌<◌}
 use native.Mathlib.Nat.{le_trans, mul_assoc, mul_right_comm, mul-le-mul_right, mul-le-mul, le_of_mul-le-mul_right}
 use native.Mathlib.Omega.{arith}
-use lib.Dec.{leb}
+use lib.Dec.{T, leb}
 use lib.IntN.{ℤ}
 use borrow.Author.Tests.{leb-true, leb-false}
 use lib.Pow.{pow-add, pow_pos, pow_mono}
 use lib.Ieee.{Float, nan, inf, fin, up, down, of_bits}
-use lib.Ieee.Bits.{is_true}
 use lib.Ieee.Exact.{HasValue}
 use lib.Ieee.Fits.{down_pos}
 use lib.Ieee.Scale.{finite}
 use Rattle.ieee.specs.Limit.{within, Bounded}
 use Rattle.ieee.specs.Whole.{whole_down, whole_up}
-use Rattle.ieee.proofs.Bounds.{within→bounded, bounded_finite}
+use Rattle.ieee.proofs.Bounds.{within→bounded}
 use Rattle.ieee.proofs.Whole.{Mono, down_mono, up_mono, same_of_mono}
-use Rattle.float.specs.declared.Parts.{Parts}
-use Rattle.float.specs.Parts.{PartsOf}
+use Rattle.float.specs.declared.parts.Parts.{Parts}
 use Rattle.count.specs.Count.{count_down, count_up, count_limit}
 
 limit_value : HasValue count_limit false (2 ^ 20) 1
@@ -41,12 +39,20 @@ few_drops q k full h = go (leb 149 k) refl
         let large : 2 ^ 23 * 2 ^ 149 ≤ q * 2 ^ k = mul-le-mul digits (pow_mono l) in
         absurd (too_large (le_trans large h))
 
-module _ (x : Float) (r : Parts) (p : PartsOf x r) (w : within count_limit x ≡ true) where
+-- what is not finite counts as none
+pub down_other : (x : Float) → finite x ≡ false → 0 ≡ count_down x
+down_other nan h = refl
+down_other (inf s) h = refl
+down_other (fin s m e) h = absurd (subst T h tt)
+
+pub up_other : (x : Float) → finite x ≡ false → 0 ≡ count_up x
+up_other nan h = refl
+up_other (inf s) h = refl
+up_other (fin s m e) h = absurd (subst T h tt)
+
+module _ (x : Float) (r : Parts) (value : HasValue x r.negative (r.digits * 2 ^ r.drops) (2 ^ 149)) (w : within count_limit x ≡ true) where
   bounded : Bounded (2 ^ 20) x
   bounded = within→bounded (2 ^ 20) count_limit x limit_value w
-
-  value : HasValue x r.negative (r.digits * 2 ^ r.drops) (2 ^ 149)
-  value = p.value (p.is ∙ is_true (finite x) (bounded_finite (2 ^ 20) x bounded))
 
   units : (y : Float) (s : Bool) (n : ℕ) → Bounded (2 ^ 20) y → HasValue y s n (2 ^ 149) → n ≤ 2 ^ 20 * 2 ^ 149
   units nan s n b v = absurd v
@@ -57,7 +63,7 @@ module _ (x : Float) (r : Parts) (p : PartsOf x r) (w : within count_limit x ≡
       (down_pos e)
 
   pub drops_few : r.drops < 149
-  drops_few = few_drops r.digits r.drops p.full (units x r.negative (r.digits * 2 ^ r.drops) bounded value)
+  drops_few = few_drops r.digits r.drops r.full (units x r.negative (r.digits * 2 ^ r.drops) bounded value)
 
   pub drops_inside : r.drops ≤ 149
   drops_inside = let h = drops_few in omega arith
@@ -98,4 +104,4 @@ module _ (x : Float) (r : Parts) (p : PartsOf x r) (w : within count_limit x ≡
   pub up_count : r.negative ≡ false → (n : ℕ) → n ≡ whole_up r.digits (2 ^ (149 - r.drops)) → n ≡ count_up x
   up_count s n e = e ∙ same whole_up up_mono x value s count_up (λ s m e. refl)
 
-pub ruleset counts = (drops_few, drops_inside, shift_some, down_negative, up_negative, down_count, up_count)
+pub ruleset counts = (down_other, up_other, drops_few, drops_inside, shift_some, down_negative, up_negative, down_count, up_count)

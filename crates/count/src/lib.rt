@@ -1,5 +1,5 @@
 // A float as a count.
-#![tactic(auto)]
+#![tactic(auto, using(crate::proofs::Ways::counts))]
 
 ghost use Rattle.std.specs.Prelude.{◌≡◌, true, ◌^◌, ◌≤◌};
 ghost use Rattle.ieee.specs.Limit.{within};
@@ -10,14 +10,9 @@ pub fn count_down(x: f32) -> u64
     requires { within count_limit x ≡ true }
     ensures { (result ≡ count_down x) × (result ≤ 2 ^ 24) }
 {
-    let p = float::split(x);
-    let q = p.digits;
-    let k = p.drops;
-    let negative = p.negative;
-    if negative {
-        0
-    } else {
-        whole::down_at(q, 149 - k)
+    match float::split(x) {
+        Some(p) if !p.negative => whole::down_at(p.digits, 149 - p.drops),
+        _ => 0,
     }
 }
 
@@ -26,13 +21,8 @@ pub fn count_up(x: f32) -> u64
     requires { within count_limit x ≡ true }
     ensures { (result ≡ count_up x) × (result ≤ 2 ^ 24) }
 {
-    let p = float::split(x);
-    let q = p.digits;
-    let k = p.drops;
-    let negative = p.negative;
-    if negative {
-        0
-    } else {
-        whole::up_at(q, 149 - k)
+    match float::split(x) {
+        Some(p) if !p.negative => whole::up_at(p.digits, 149 - p.drops),
+        _ => 0,
     }
 }

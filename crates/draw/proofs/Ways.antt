@@ -1,6 +1,7 @@
 -- What each way out of a function of this crate owes, as the code meets it: a premise for each test and for each call's result.
 -- Assumes nothing.
-use Rattle.std.specs.Prelude.{Ok}
+use Rattle.command.specs.declared.Size.{Size}
+use Rattle.std.specs.Prelude.{Ok, Err}
 use mathlib.Core.Path.{◌≡◌, sym, ap, ◌∙◌}
 use mathlib.Core.Bool.{Bool, true, false, not}
 use mathlib.Core.List.{List, [], ◌∷◌}
@@ -17,8 +18,8 @@ use Rattle.command.specs.declared.PathCommand.{PathCommand}
 use Rattle.command.specs.declared.Refusal.{Refusal}
 use Rattle.command.specs.declared.Refusal.TheVariants.{Empty, TooMany, OutOfRange, Unlisted, Unsupported, OutOfBounds}
 use Rattle.command.specs.Refusals.{refusal_number}
-use Rattle.command.specs.Outcomes.{Outcome, ◌gives◌, checked}
-use Rattle.command.specs.Buffers.{in_buffers, fitted, FilledBoth}
+use Rattle.command.specs.Outcomes.{Outcome, ◌gives◌, checked, number_of}
+use Rattle.command.specs.Buffers.{in_buffers, fitted, FilledBoth, codes_told, numbers_told}
 use Rattle.command.proofs.Buffers.{both_unfilled}
 use Rattle.command.proofs.Verdicts.{behind_refused, behind_passed, all_pass}
 use Rattle.rect.specs.Rect.{corner_radius}
@@ -36,37 +37,6 @@ use Rattle.draw.specs.Items.{is_drawable, is_held_back, has_no_vertices, item_sh
 
 -- ---- check_path and draw_path
 module _ (closed : ℕ) (v : List Float) (count : ℕ) where
-  pub path_empty : count ≡ 0 → (Err Empty) ≡ checked (path_checks closed v count) (Ok tt)
-  unfolding path_checks
-  path_empty a = rw (eq-eqb count 0 a)
-
-  module _ (a : count ≡ 0 → ⊥) where
-    pub path_many : 1024 < count → (Err TooMany) ≡ checked (path_checks closed v count) (Ok tt)
-    unfolding path_checks
-    path_many b = rw (ne_eqb count 0 a, lt-ltb 1024 count b)
-
-    module _ (b : count ≤ 1024) where
-      pub path_unlisted : 1 < closed → (Err Unlisted) ≡ checked (path_checks closed v count) (Ok tt)
-      unfolding path_checks
-      path_unlisted c = rw (ne_eqb count 0 a, le-ltb 1024 count b, lt-ltb 1 closed c)
-
-      module _ (c : closed ≤ 1) where
-        pub path_outside : length v < 6 * count → (Err OutOfBounds) ≡ checked (path_checks closed v count) (Ok tt)
-        unfolding path_checks
-        path_outside d = rw (ne_eqb count 0 a, le-ltb 1024 count b, le-ltb 1 closed c, lt-ltb (length v) (6 * count) d)
-
-        module _ (d : 6 * count ≤ length v) (t : Bool) (is : t ≡ all_within coordinate_limit (take (6 * count) v)) where
-          -- the last check, with the others passed
-          last_path : checked ((not t gives OutOfRange) ∷ []) (Ok tt) ≡ checked (path_checks closed v count) (Ok tt)
-          unfolding path_checks
-          last_path = rw (ne_eqb count 0 a, le-ltb 1024 count b, le-ltb 1 closed c, le-ltb (length v) (6 * count) d, ← is)
-
-          pub path_passes : t ≡ true → Ok tt ≡ checked (path_checks closed v count) (Ok tt)
-          path_passes e = rw e at last_path
-
-          pub path_beyond : t ≡ false → (Err OutOfRange) ≡ checked (path_checks closed v count) (Ok tt)
-          path_beyond e = rw e at last_path
-
   module _ (verdict : Outcome (Unit {0})) (verdict_is : verdict ≡ checked (path_checks closed v count) (Ok tt)) where
     pub path_ready : verdict ≡ Ok tt → Fit (Path closed count) v
     path_ready e =
@@ -91,42 +61,10 @@ module _ (closed : ℕ) (v : List Float) (count : ℕ) where
 pub taken : (v : List Float) (n : ℕ) → n ≤ length v → n ≡ length (take n v)
 taken v n h = sym (length-take-le n v h)
 
-pub ruleset paths = (taken, path_empty, path_many, path_unlisted, path_outside, path_passes, path_beyond)
-
 pub ruleset path_drawings = (path_ready, path_refused, path_drawn_whole)
 
--- ---- is_drawable
-module _ (row : ItemRow) (t : Bool) (is : t ≡ is_listed row) where
-  pub listed_kind : t ≡ true → leb row.kind 4 ≡ is_drawable row
-  unfolding is_drawable
-  listed_kind h = rw (← is, h)
-
-  pub not_listed : t ≡ false → false ≡ is_drawable row
-  unfolding is_drawable
-  not_listed h = rw (← is, h)
-
-pub ruleset rows = (listed_kind, not_listed)
-
--- ---- has_no_vertices, is_held_back and shape_of
+-- ---- shape_of
 module _ (row : ItemRow) where
-  pub no_vertices_path : row.kind ≡ 1 → eqb row.count 0 ≡ has_no_vertices row
-  no_vertices_path h = rw (eq-eqb row.kind 1 h)
-
-  pub no_vertices_other : (row.kind ≡ 1 → ⊥) → false ≡ has_no_vertices row
-  no_vertices_other h = rw (ne_eqb row.kind 1 h)
-
-  pub path_drawn : row.kind ≡ 1 → false ≡ is_held_back row
-  path_drawn h = rw (eq-eqb row.kind 1 h)
-
-  pub rect_drawn : row.kind ≡ 2 → false ≡ is_held_back row
-  rect_drawn h = rw h
-
-  pub ellipse_drawn : row.kind ≡ 3 → false ≡ is_held_back row
-  ellipse_drawn h = rw h
-
-  pub others_held : (row.kind ≡ 1 → ⊥) → (row.kind ≡ 2 → ⊥) → (row.kind ≡ 3 → ⊥) → true ≡ is_held_back row
-  others_held a b c = rw (ne_eqb row.kind 1 a, ne_eqb row.kind 2 b, ne_eqb row.kind 3 c)
-
   module _ (items : List Float) (some : has_no_vertices row ≡ false) (few : row.count ≤ 1024) (inside : row.place + entries_of row ≤ length items) where
     abbrev from : List Float
     from = drop row.place items
@@ -139,10 +77,13 @@ module _ (row : ItemRow) where
       pub path_fits : Ready (Ok (row.place, (Path row.mark row.count))) items
       path_fits =
           let is = entries_path row (eq-eqb row.kind 1 h) in
-          let one : row.count ≡ 0 → ⊥ = eqb-false row.count 0 (no_vertices_path h ∙ some) in
+          let one : row.count ≡ 0 → ⊥ = eqb-false row.count 0 (rw (eq-eqb row.kind 1 h) at some) in
           (omega arith, record { some = omega arith; few = few; inside = rw length-drop (omega arith) })
 
-    module _ (a : row.kind ≡ 1 → ⊥) (h : row.kind ≡ 2) where
+    module _ (h : row.kind ≡ 2) where
+      a : row.kind ≡ 1 → ⊥
+      a z = omega arith
+
       five : entries_of row ≡ 5
       five = entries_rect row (ne_eqb row.kind 1 a) (eq-eqb row.kind 2 h)
 
@@ -175,12 +116,6 @@ module _ (row : ItemRow) where
       shape_none c = rw (ne_eqb row.kind 1 a, ne_eqb row.kind 2 b, ne_eqb row.kind 3 c)
 
 pub ruleset kinds = (
-  no_vertices_path,
-  no_vertices_other,
-  path_drawn,
-  rect_drawn,
-  ellipse_drawn,
-  others_held,
   shape_path,
   path_fits,
   five_inside,
@@ -201,31 +136,31 @@ module _ (row : ItemRow) (items : List Float) where
   verdict = checked (source_checks row items) (Ok tt)
 
   module _ (held : Bool) (held_is : held ≡ is_held_back row) where
-    pub source_held : held ≡ true → (Err Unsupported) ≡ verdict
+    pub source_held : held ≡ true → Err Unsupported ≡ verdict
     unfolding source_checks
     source_held a = rw (← held_is, a)
 
     module _ (a : held ≡ false) (empty : Bool) (empty_is : empty ≡ has_no_vertices row) where
-      pub source_empty : empty ≡ true → (Err Empty) ≡ verdict
+      pub source_empty : empty ≡ true → Err Empty ≡ verdict
       unfolding source_checks
       source_empty b = rw (← held_is, a, ← empty_is, b)
 
       module _ (b : empty ≡ false) where
-        pub source_many : 1024 < row.count → (Err TooMany) ≡ verdict
+        pub source_many : 1024 < row.count → Err TooMany ≡ verdict
         unfolding source_checks
         source_many c = rw (← held_is, a, ← empty_is, b, lt-ltb 1024 row.count c)
 
         module _ (c : row.count ≤ 1024) (n : ℕ) (n_is : n ≡ entries_of row) where
-          source_outside : length items < row.place + entries_of row → (Err OutOfBounds) ≡ verdict
+          source_outside : length items < row.place + entries_of row → Err OutOfBounds ≡ verdict
           unfolding source_checks
           source_outside d =
               rw (← held_is, a, ← empty_is, b, le-ltb 1024 row.count c, lt-ltb (length items) (row.place + entries_of row) d)
 
-          pub source_short : length items < n → (Err OutOfBounds) ≡ verdict
+          pub source_short : length items < n → Err OutOfBounds ≡ verdict
           source_short d = source_outside (omega arith)
 
           module _ (d : n ≤ length items) where
-            pub source_past : length items - n < row.place → (Err OutOfBounds) ≡ verdict
+            pub source_past : length items - n < row.place → Err OutOfBounds ≡ verdict
             source_past e = source_outside (omega arith)
 
             module _ (e : row.place ≤ length items - n) where
@@ -258,7 +193,7 @@ module _ (row : ItemRow) (items : List Float) where
                       ← judged,
                     )
 
-                pub source_beyond : t ≡ false → (Err OutOfRange) ≡ verdict
+                pub source_beyond : t ≡ false → Err OutOfRange ≡ verdict
                 source_beyond f = rw f at last
 
                 pub source_passes : t ≡ true → Ok tt ≡ verdict
@@ -303,26 +238,6 @@ module _ (row : ItemRow) (items : List Float) (u : Outcome (Unit {0})) (u_is : u
     source_made k is = is ∙ sym (behind_passed (source_checks row items) u u_is e (shape_drawn row rest))
 
 pub ruleset behind_checks = (some_vertices, few_vertices, numbers_inside, source_made)
-
--- ---- check_row
-module _ (row : List ℕ) where
-  pub row_short : length row < 6 → (Err OutOfBounds) ≡ checked (item_checks row) (Ok tt)
-  unfolding item_checks
-  row_short a = rw (lt-ltb (length row) 6 a)
-
-  module _ (a : 6 ≤ length row) (r : ItemRow) (r_is : r ≡ item_row row 0) (t : Bool) (t_is : t ≡ is_drawable r) where
-    row_judged : is_drawable (item_row row 0) ≡ t
-    row_judged = ap is_drawable (sym r_is) ∙ sym t_is
-
-    pub row_unlisted : t ≡ false → (Err Unlisted) ≡ checked (item_checks row) (Ok tt)
-    unfolding item_checks
-    row_unlisted b = rw (le-ltb (length row) 6 a, row_judged ∙ b)
-
-    pub row_passes : t ≡ true → Ok tt ≡ checked (item_checks row) (Ok tt)
-    unfolding item_checks
-    row_passes b = rw (le-ltb (length row) 6 a, row_judged ∙ b)
-
-pub ruleset row_checks_lem = (row_short, row_unlisted, row_passes)
 
 -- ---- draw_checked
 pub tail : (l : List Float) (a : ℕ) → take (length l - a) (drop a l) ≡ drop a l

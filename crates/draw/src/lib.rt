@@ -14,6 +14,7 @@ use item::ItemRow;
 use shape::Shape;
 
 // The checks of a vertex list, all but that of the buffers.
+#[tactic(auto, unfolding(crate::specs::Paths::path_checks))]
 pub fn check_path(closed: u32, vertices: &[f32], count: usize) -> Outcome<()>
     ensures { result ≡ checked (path_checks closed vertices.now count) (Ok tt) }
 {
@@ -38,6 +39,7 @@ pub fn check_path(closed: u32, vertices: &[f32], count: usize) -> Outcome<()>
 }
 
 // Whether a row that is to be drawn has only listed entries, its kind being one that can be drawn.
+#[tactic(auto, unfolding(crate::specs::Items::is_drawable))]
 fn is_drawable(row: ItemRow) -> bool
     ensures { result ≡ is_drawable row }
 {
@@ -60,6 +62,7 @@ fn is_held_back(row: ItemRow) -> bool
 
 // What a row whose numbers are there and within the limit says is to be drawn, with the place where its numbers start, or
 // why it cannot be.
+#[tactic(auto, using(crate::proofs::Ways::kinds), unfolding(crate::specs::Items::shape_drawn, crate::specs::Items::item_shape, crate::specs::Checks::outcome_of))]
 pub fn shape_of(row: ItemRow, items: &[f32]) -> Outcome<(usize, Shape)>
     requires { (has_no_vertices row ≡ false) × (row.count ≤ 1024) × (row.place + entries_of row ≤ length items.now) }
     ensures { (outcome_of result items.now ≡ shape_drawn row (drop row.place items.now)) × Ready result items.now }
@@ -75,6 +78,7 @@ pub fn shape_of(row: ItemRow, items: &[f32]) -> Outcome<(usize, Shape)>
 }
 
 // The checks of a row with listed entries, all but that of the buffers.
+#[tactic(auto, using(crate::proofs::Ways::sources), unfolding(crate::specs::Items::source_checks))]
 pub fn check_source(row: ItemRow, items: &[f32]) -> Outcome<()>
     ensures { result ≡ checked (source_checks row items.now) (Ok tt) }
 {
@@ -103,6 +107,7 @@ pub fn check_source(row: ItemRow, items: &[f32]) -> Outcome<()>
 }
 
 // The checks of one item row by itself: that it is there, and that it may be asked to be drawn.
+#[tactic(auto, unfolding(crate::specs::Items::item_checks))]
 pub fn check_row(row: &[u32]) -> Outcome<()>
     ensures { result ≡ checked (item_checks row.now) (Ok tt) }
 {
@@ -117,6 +122,7 @@ pub fn check_row(row: &[u32]) -> Outcome<()>
 }
 
 // Writes the shape that the checks let pass, if it fits the buffers.
+#[tactic(auto, using(crate::proofs::Ways::drawings))]
 fn draw_checked(
     shape: Outcome<(usize, Shape)>,
     list: &[f32],
@@ -134,6 +140,7 @@ fn draw_checked(
 }
 
 // Draws the first `count` vertices of a list, each of six numbers, into two buffers.
+#[tactic(auto, using(crate::proofs::Ways::path_drawings))]
 pub fn draw_path(
     closed: u32,
     vertices: &[f32],
@@ -151,6 +158,7 @@ pub fn draw_path(
 }
 
 // Draws a row with listed entries into two buffers.
+#[tactic(auto, using(crate::proofs::Ways::source_drawings))]
 fn draw_source(row: ItemRow, items: &[f32], codes: &mut [u8], numbers: &mut [f32]) -> Outcome<Size>
     ensures { FilledBoth
         (fitted (in_buffers (length codes.old) (length numbers.old)) (draw_source row items.now))
@@ -162,6 +170,7 @@ fn draw_source(row: ItemRow, items: &[f32], codes: &mut [u8], numbers: &mut [f32
 }
 
 // Draws one item row into two buffers.
+#[tactic(auto, using(crate::proofs::Ways::item_drawings))]
 pub fn draw_item(row: &[u32], items: &[f32], codes: &mut [u8], numbers: &mut [f32]) -> Outcome<Size>
     ensures { FilledBoth
         (fitted (in_buffers (length codes.old) (length numbers.old)) (draw_item row.now items.now))

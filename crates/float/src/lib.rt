@@ -1,5 +1,5 @@
 // An f32 taken apart and written by its bit pattern, without its sign, and chosen between others.
-#![tactic(auto)]
+#![tactic(auto, using(crate::proofs::Ways::ways))]
 
 ghost use Rattle.std.specs.Prelude.{◌≡◌, ◌^◌, ◌≤◌, ◌<◌};
 ghost use Rattle.std.specs.Float.Ieee as Ieee;
@@ -12,17 +12,12 @@ ghost use Rattle.ieee.specs.Limit.{within, all_within};
 ghost use Rattle.ieee.specs.Pattern.{with_sign, drops_of, infinity};
 ghost use Rattle.float.specs.Parts.{PartsOf};
 
-// The pattern of +infinity.
-const INFINITY: u64 = 0x7f80_0000;
+mod parts;
 
-// A float as `digits` * 2^`drops` of the smallest one, 2^-149, with a sign, where it is finite.
-#[derive(Clone, Copy)]
-pub struct Parts {
-    pub finite: bool,
-    pub negative: bool,
-    pub digits: u64,
-    pub drops: u64,
-}
+pub use parts::Parts;
+
+// The pattern of +infinity.
+pub const INFINITY: u64 = f32::to_bits(f32::INFINITY) as u64;
 
 // How many places the digits of a pattern with a clear sign stand above the smallest float's.
 pub fn drops_of(p: u64) -> u64
@@ -32,42 +27,31 @@ pub fn drops_of(p: u64) -> u64
     if field == 0 { 0 } else { field - 1 }
 }
 
-pub fn split(x: f32) -> Parts
+// The parts of x, or none where x is a NaN or an infinity.
+pub fn split(x: f32) -> Option<Parts>
     ensures { PartsOf x result }
 {
-    if x != x {
-        return Parts {
-            finite: false,
-            negative: false,
-            digits: 0,
-            drops: 0,
-        };
+    if x.is_nan() {
+        return None;
     }
-    let b = f32::to_bits(x) as u64;
+    let b = x.to_bits() as u64;
     let p = b % 0x8000_0000;
-    if p < INFINITY {
-        let k = drops_of(p);
-        return Parts {
-            finite: true,
-            negative: b >= 0x8000_0000,
-            digits: p - k * 0x80_0000,
-            drops: k,
-        };
+    if p >= INFINITY {
+        return None;
     }
-    Parts {
-        finite: false,
-        negative: false,
-        digits: 0,
-        drops: 0,
-    }
+    let drops = drops_of(p);
+    Some(Parts {
+        negative: b >= 0x8000_0000,
+        digits: p - drops * 0x80_0000,
+        drops,
+    })
 }
 
 // Whether x is no NaN and no infinity.
 pub fn is_finite(x: f32) -> bool
     ensures { result ≡ finite x }
 {
-    let parts = split(x);
-    parts.finite
+    x.is_finite()
 }
 
 // The float with the sign `negative` and the rest p of its pattern.
@@ -87,48 +71,28 @@ pub fn encode(negative: bool, q: u64, k: u64) -> f32
     requires { (q ≤ 2 ^ 24) × (k < 1000) × (0 < k → 2 ^ 23 ≤ q) }
     ensures { result ≡ units binary32 negative q k }
 {
-    let p = k * 0x80_0000 + q;
-    if p < INFINITY {
-        signed(negative, p)
-    } else {
-        signed(negative, INFINITY)
-    }
+    signed(negative, (k * 0x80_0000 + q).min(INFINITY))
 }
 
 // x without its sign.
 pub fn abs(x: f32) -> f32
     ensures { result ≡ Sign.abs x }
 {
-    if x != x {
-        return x;
-    }
-    f32::from_bits(f32::to_bits(x) % 0x8000_0000)
+    x.abs()
 }
 
-// The smaller of two, where a NaN gives way; the second of two that compare equal.
+// The smaller of two, where a NaN gives way; the second of two that compare equal, of which `f32::min` may answer either.
 pub fn min(x: f32, y: f32) -> f32
     ensures { result ≡ Choice.min x y }
 {
-    if x < y {
-        x
-    } else if y != y {
-        x
-    } else {
-        y
-    }
+    if x < y || y.is_nan() { x } else { y }
 }
 
-// The larger of two, where a NaN gives way; the second of two that compare equal.
+// The larger of two, where a NaN gives way; the second of two that compare equal, of which `f32::max` may answer either.
 pub fn max(x: f32, y: f32) -> f32
     ensures { result ≡ Choice.max x y }
 {
-    if y < x {
-        x
-    } else if y != y {
-        x
-    } else {
-        y
-    }
+    if y < x || y.is_nan() { x } else { y }
 }
 
 fn at_least(lo: f32, x: f32) -> f32
@@ -137,7 +101,7 @@ fn at_least(lo: f32, x: f32) -> f32
     if x < lo { lo } else { x }
 }
 
-// x, not below lo and then not above hi.
+// x, not below lo and then not above hi. `f32::clamp` asks for a lo that is at most hi.
 pub fn clamp(x: f32, lo: f32, hi: f32) -> f32
     ensures { result ≡ Choice.clamp lo hi x }
 {
@@ -149,44 +113,12 @@ pub fn clamp(x: f32, lo: f32, hi: f32) -> f32
 pub fn is_within(x: f32, limit: f32) -> bool
     ensures { result ≡ within limit x }
 {
-    if x <= limit { -limit <= x } else { false }
-}
-
-// Whether each number is at most `limit` in absolute value, up to the first that is not.
-fn few_within(numbers: &[f32], limit: f32) -> bool
-    ensures { result ≡ all_within limit numbers.now }
-{
-    let mut i: usize = 0;
-    while i < numbers.len() {
-        if is_within(numbers[i], limit) {
-            i += 1;
-        } else {
-            return false;
-        }
-    }
-    true
-}
-
-// The same with no way out before the end, so that the compiler can use vectors.
-fn many_within(numbers: &[f32], limit: f32) -> bool
-    ensures { result ≡ all_within limit numbers.now }
-{
-    let mut so_far = true;
-    let mut k: usize = 0;
-    while k < numbers.len() {
-        so_far = so_far & is_within(numbers[k], limit);
-        k += 1;
-    }
-    so_far
+    x <= limit && -limit <= x
 }
 
 // Whether each number is at most `limit` in absolute value.
 pub fn all_within(numbers: &[f32], limit: f32) -> bool
     ensures { result ≡ all_within limit numbers.now }
 {
-    if numbers.len() < 16 {
-        few_within(numbers, limit)
-    } else {
-        many_within(numbers, limit)
-    }
+    numbers.iter().all(|x| is_within(*x, limit))
 }

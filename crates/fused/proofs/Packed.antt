@@ -9,8 +9,8 @@ use lib.Pow.{pow-add, pow_pos, pow_mono, shr_lt}
 use lib.Ieee.{Float, binary32, units, round}
 use lib.Ieee.Nearest.{closest, closest_same}
 use Rattle.ieee.proofs.Closest.{closest_ge, closest_le, closest_down}
-use Rattle.fused.specs.declared.Num.{Num}
-use Rattle.fused.specs.Align.{Lifted}
+use Rattle.fused.specs.declared.term.Term.{Term}
+use Rattle.fused.specs.Lifted.{Lifted}
 use Rattle.fused.proofs.Dyadic.{size_of, round_dyadic}
 
 -- ---- k places are dropped, and sh of the digits of m
@@ -36,30 +36,32 @@ closest_zero : (m sh : ℕ) → m < 2 ^ 63 → 64 ≤ sh → closest m (2 ^ sh) 
 closest_zero m sh h k = let l : 2 ^ 64 ≤ 2 ^ sh = pow_mono k in let z = zero-mul (2 ^ sh) in closest_down m (2 ^ sh) 0 (omega arith) (omega arith)
 
 -- ---- what `pack` hands to `encode`, and what comes back
-module _ (s : Bool) (m e : ℕ) (v : Num) (l : Lifted m e 1 v) where
-  packed_at : (q k sh : ℕ) (r : Float) → k ≡ 63 + v.e - 363 - 24 → 363 + k ≡ sh + v.e → q ≡ closest v.m (2 ^ sh) → r ≡ units binary32 s q k → r ≡ round binary32 s (m * 2 ^ e) (2 ^ 512)
-  packed_at q k sh r K J c h =
-      h ∙ ap (λ (x : ℕ). units binary32 s x k) c ∙ sym (packed s v.m v.e k sh l.low l.high K J)
-      ∙ ap (λ (x : ℕ). round binary32 s x (2 ^ 512)) (moved m e l.n v.m v.e l.up l.down)
+module _ (t v : Term) (l : Lifted t 1 v) where
+  abbrev nearest : Float
+  nearest = round binary32 t.negative (t.m * 2 ^ t.e) (2 ^ 512)
 
-  pub pack_high : (q : ℕ) (r : Float) → 324 ≤ v.e → q ≡ closest v.m (2 ^ 39) → r ≡ units binary32 s q (v.e - 324) → r ≡ round binary32 s (m * 2 ^ e) (2 ^ 512)
+  packed_at : (q k sh : ℕ) (r : Float) → k ≡ 63 + v.e - 363 - 24 → 363 + k ≡ sh + v.e → q ≡ closest v.m (2 ^ sh) → r ≡ units binary32 v.negative q k → r ≡ nearest
+  packed_at q k sh r K J c h =
+      h ∙ ap (λ (x : ℕ). units binary32 v.negative x k) c ∙ sym (packed v.negative v.m v.e k sh l.low l.high K J)
+      ∙ (λ i. round binary32 (l.sign i) (moved t.m t.e l.n v.m v.e l.up l.down i) (2 ^ 512))
+
+  pub pack_high : (q : ℕ) (r : Float) → 324 ≤ v.e → q ≡ closest v.m (2 ^ 39) → r ≡ units binary32 v.negative q (v.e - 324) → r ≡ nearest
   pack_high q r g c h = packed_at q (v.e - 324) 39 r (omega arith) (omega arith) c h
 
-  pub pack_none : (r : Float) → v.e < 324 → 64 ≤ 363 - v.e → r ≡ units binary32 s 0 0 → r ≡ round binary32 s (m * 2 ^ e) (2 ^ 512)
+  pub pack_none : (r : Float) → v.e < 324 → 64 ≤ 363 - v.e → r ≡ units binary32 v.negative 0 0 → r ≡ nearest
   pack_none r g k h = packed_at 0 0 (363 - v.e) r (omega arith) (omega arith) (sym (closest_zero v.m (363 - v.e) l.high k)) h
 
-  pub pack_low : (q : ℕ) (r : Float) → v.e < 324 → q ≡ closest v.m (2 ^ (363 - v.e)) → r ≡ units binary32 s q 0 → r ≡ round binary32 s (m * 2 ^ e) (2 ^ 512)
+  pub pack_low : (q : ℕ) (r : Float) → v.e < 324 → q ≡ closest v.m (2 ^ (363 - v.e)) → r ≡ units binary32 v.negative q 0 → r ≡ nearest
   pack_low q r g c h = packed_at q 0 (363 - v.e) r (omega arith) (omega arith) c h
 
-module _ (m e : ℕ) (v : Num) (l : Lifted m e 1 v) where
   pub high_small : (q : ℕ) → q ≡ closest v.m (2 ^ 39) → q ≤ 2 ^ 24
   high_small q c = subst (λ (x : ℕ). x ≤ 2 ^ 24) (sym c) (closest_small v.m 39 l.high (lit≤ tt))
 
   pub high_full : (q : ℕ) → q ≡ closest v.m (2 ^ 39) → 2 ^ 23 ≤ q
   high_full q c = subst (λ (x : ℕ). 2 ^ 23 ≤ x) (sym c) (closest_large v.m l.low)
 
-  pub high_places : e < 1000 → v.e - 324 < 1000
-  high_places h = omega (arith, l.down)
+  pub high_places : v.e - 324 < 1000
+  high_places = omega (arith, v.short)
 
   pub low_small : (q : ℕ) → v.e < 324 → q ≡ closest v.m (2 ^ (363 - v.e)) → q ≤ 2 ^ 24
   low_small q h c = subst (λ (x : ℕ). x ≤ 2 ^ 24) (sym c) (closest_small v.m (363 - v.e) l.high (omega arith))

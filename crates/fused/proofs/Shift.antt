@@ -10,7 +10,9 @@ use lib.Ieee.{nearest}
 use lib.Ieee.Nearest.{closest}
 use Rattle.ieee.proofs.Digits.{pow_lt_back}
 use Rattle.ieee.proofs.Tests.{compare_lt, compare_eq, compare_gt}
-use Rattle.fused.specs.Align.{jam, Lifted}
+use Rattle.fused.specs.declared.term.Term.{Term}
+use Rattle.fused.specs.Align.{jam}
+use Rattle.fused.specs.Lifted.{Lifted}
 
 -- ---- `lift`
 pub zeros_fit : (m : ℕ) → count_leading_zeros 64 m < 2 ^ 64
@@ -48,13 +50,19 @@ module _ (m z : ℕ) (M : 0 < m) (h : m < 2 ^ (64 - z)) (Z : z < 64) where
     pub zeros_room : n ≤ e
     zeros_room = le_trans (le_of_lt zeros_few) E
 
-    pub lift_is : Lifted m e z (record { m = m * 2 ^ n % 2 ^ 64; e = e - n })
-    lift_is = record {
-      n = n;
-      up = kept;
-      down = omega (arith, zeros_room);
-      low = subst (λ (x : ℕ). 2 ^ (63 - z) ≤ x) (sym kept) low;
-      high = subst (λ (x : ℕ). x < 2 ^ (64 - z)) (sym kept) high;
+-- what `lifted` gives
+pub lift_is : (t r : Term) (z : ℕ) → 0 < t.m → t.m < 2 ^ (64 - z) → z < 64 → 64 ≤ t.e → r.negative ≡ t.negative
+    → r.m ≡ t.m * 2 ^ (count_leading_zeros 64 t.m - z) % 2 ^ 64 → r.e ≡ t.e - (count_leading_zeros 64 t.m - z) → Lifted t z r
+lift_is t r z M h Z E s a b =
+    let m = a ∙ kept t.m z M h Z in
+    let room = zeros_room t.m z M h Z t.e E in
+    record {
+      sign = s;
+      n = n t.m z M h Z;
+      up = m;
+      down = omega (arith, room, b);
+      low = subst (λ (x : ℕ). 2 ^ (63 - z) ≤ x) (sym m) (low t.m z M h Z);
+      high = subst (λ (x : ℕ). x < 2 ^ (64 - z)) (sym m) (high t.m z M h Z);
     }
 
 -- ---- m >> s, and back

@@ -1,6 +1,6 @@
 -- a * b + c in binary64 is one rounding of the exact sum, as the product is exact there: so it is `fma`'s own sum, at the other format. Assumes nothing.
 use mathlib.Core.Path.{◌≡◌, refl, sym, ◌∙◌, subst}
-use Prim.Native.Nat.{ℕ, ◌*◌, ◌^◌}
+use Prim.Native.Nat.{ℕ, ◌*◌, ◌^◌, ◌<◌}
 use native.Mathlib.Nat.{mul_assoc}
 use mathlib.Core.Bool.{Bool, true}
 use lib.Dec.{T}
@@ -13,14 +13,29 @@ use Rattle.ieee.proofs.Sum.{SumOf, sum_of}
 use Rattle.ieee.proofs.Operations.{add_at, add_finite, mul_finite}
 use Rattle.ieee.proofs.Pattern.{read_finite}
 use Rattle.ieee.proofs.Wide.{product_exact}
-use Rattle.float.specs.declared.Parts.{Parts}
-use Rattle.float.specs.Parts.{PartsOf}
-use Rattle.float.proofs.Ways.{split_finite}
+use Rattle.float.proofs.Ways.{split_value, split_small, split_short}
 use Rattle.fused.proofs.Operands.{addend, fma_sum}
 
 -- ---- a finite float has parts
-parts : (x : Float) → fits binary32 x ≡ true → finite x ≡ true → (p : Parts) × PartsOf x p
-parts x f h = (_, split_finite x _ f refl (read_finite x (subst T (sym f) tt) h))
+record Parted (x : Float) : Type 0 where
+  negative : Bool
+  digits : ℕ
+  drops : ℕ
+  value : HasValue x negative (digits * 2 ^ drops) (2 ^ 149)
+  small : digits < 2 ^ 24
+  short : drops < 254
+
+parts : (x : Float) → fits binary32 x ≡ true → finite x ≡ true → Parted x
+parts x f h =
+    let l = read_finite x (subst T (sym f) tt) h in
+    record {
+      negative = _;
+      digits = _;
+      drops = _;
+      value = split_value x f _ refl l;
+      small = split_small x f _ refl l;
+      short = split_short x f _ refl l;
+    }
 
 -- ---- the two are roundings of one number, in units of 2 ^ -1074
 pub record Both (x y z : Float) : Type 0 where
@@ -51,7 +66,4 @@ both x y z F G H f =
     let X = parts x F r.0 in
     let Y = parts y G r.1 in
     let Z = parts z H p.1 in
-    let v = X.1.value (X.1.is ∙ r.0) in
-    let w = Y.1.value (Y.1.is ∙ r.1) in
-    let o = Z.1.value (Z.1.is ∙ p.1) in
-    both_of x y z _ _ _ _ _ _ v w o (product_exact x y _ _ X.0.digits X.0.drops Y.0.digits Y.0.drops X.1.small Y.1.small X.1.short Y.1.short v w)
+    both_of x y z _ _ _ _ _ _ X.value Y.value Z.value (product_exact x y _ _ X.digits X.drops Y.digits Y.drops X.small Y.small X.short Y.short X.value Y.value)

@@ -1,2 +1,3 @@
 -- What the inner contracts of `fused` say.
 pub mod Align
+pub mod Lifted

@@ -72,6 +72,7 @@ pub extern "C" fn jengafir_rem_euclid_360(x: f32) -> f32
     remainder::rem_euclid_360(x)
 }
 
+#[tactic(auto, using(command::proofs::Buffers::both_told))]
 #[unsafe(no_mangle)]
 pub extern "C" fn jengafir_draw_path(
     closed: u32,
@@ -91,6 +92,7 @@ pub extern "C" fn jengafir_draw_path(
     command::tell_size(drawn, codes_written, numbers_written)
 }
 
+#[tactic(auto, using(command::proofs::Buffers::both_told))]
 #[unsafe(no_mangle)]
 pub extern "C" fn jengafir_draw_item(
     row: &[u32],
@@ -140,6 +142,7 @@ pub extern "C" fn jengafir_item_need(
     command::tell_size(need::item_need(row, items), codes_needed, numbers_needed)
 }
 
+#[tactic(auto, using(command::proofs::Buffers::both_told))]
 #[unsafe(no_mangle)]
 pub extern "C" fn jengafir_merge(
     rows: &[u32],
@@ -177,6 +180,7 @@ pub extern "C" fn jengafir_merge_need(
     )
 }
 
+#[tactic(auto, using(length::proofs::Ways::told))]
 #[unsafe(no_mangle)]
 pub extern "C" fn jengafir_length(codes: &[u8], numbers: &[f32], length: &mut f32) -> u32
     ensures { Told (measure_list codes.now numbers.now) result length.old length.new }
@@ -190,6 +194,7 @@ pub extern "C" fn jengafir_length(codes: &[u8], numbers: &[f32], length: &mut f3
     }
 }
 
+#[tactic(auto, using(reach::proofs::Ways::replying))]
 #[unsafe(no_mangle)]
 pub extern "C" fn jengafir_length_reaches(
     codes: &[u8],
@@ -227,6 +232,7 @@ pub extern "C" fn jengafir_command(
     command::tell(judge::find_command(codes, numbers, k), start, count)
 }
 
+#[tactic(auto, using(cut::proofs::Ways::telling))]
 #[unsafe(no_mangle)]
 pub extern "C" fn jengafir_trim_ranges(
     start: f32,
@@ -260,6 +266,7 @@ pub extern "C" fn jengafir_trim_ranges(
     }
 }
 
+#[tactic(auto, using(cut::proofs::Ways::telling))]
 #[unsafe(no_mangle)]
 pub extern "C" fn jengafir_trim_lengths(
     start: f32,
@@ -296,6 +303,7 @@ pub extern "C" fn jengafir_trim_lengths(
     }
 }
 
+#[tactic(auto, using(copies::proofs::Ways::telling))]
 #[unsafe(no_mangle)]
 pub extern "C" fn jengafir_copy_order(
     repeater: &[f32; 11],
@@ -312,6 +320,7 @@ pub extern "C" fn jengafir_copy_order(
     command::number_of(written)
 }
 
+#[tactic(auto, using(copies::proofs::Ways::telling))]
 #[unsafe(no_mangle)]
 pub extern "C" fn jengafir_copy_transform(
     repeater: &[f32; 11],

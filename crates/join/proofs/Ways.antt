@@ -1,5 +1,6 @@
 -- What each way out of a function of this crate owes, as the code meets it: a premise for each test and for each call's result.
 -- Assumes nothing.
+use Rattle.command.specs.declared.Size.{Size}
 use Rattle.std.specs.Prelude.{Ok, Err}
 use mathlib.Core.Path.{◌≡◌, refl, sym, ap, ◌∙◌}
 use mathlib.Core.Bool.{Bool, true, false, cond}
@@ -18,8 +19,8 @@ use Rattle.command.specs.declared.Refusal.{Refusal}
 use Rattle.command.specs.declared.Refusal.TheVariants.{BufferTooSmall}
 use Rattle.command.specs.Commands.{codes_of, numbers_of}
 use Rattle.command.specs.Refusals.{refusal_number}
-use Rattle.command.specs.Outcomes.{Outcome, list_of}
-use Rattle.command.specs.Buffers.{in_buffers, fitted, FilledBoth, size_of, need_of}
+use Rattle.command.specs.Outcomes.{Outcome, list_of, number_of, mapped}
+use Rattle.command.specs.Buffers.{in_buffers, fitted, FilledBoth, size_of, need_of, codes_told, numbers_told, pair_of}
 use Rattle.command.proofs.Outcomes.{refused_accepted}
 use Rattle.command.proofs.Lists.{codes_length, codes_append, numbers_append}
 use Rattle.command.proofs.Buffers.{sets_append, fitted_accepted, fitted_refused, filled, both_unfilled}
@@ -51,10 +52,10 @@ module _ (row : ItemRow) (items : List Float) (t : Bool) (is : t ≡ is_source_r
   unfolding draw_row
   row_other h = rw (← is, h)
 
-  pub need_of_source : (r : Outcome Size) → t ≡ true → r ≡ need_of (draw_source row items) → r ≡ need_of (draw_row row items)
+  pub need_of_source : (r : Outcome Size) → t ≡ true → mapped pair_of r ≡ need_of (draw_source row items) → mapped pair_of r ≡ need_of (draw_row row items)
   need_of_source r h e = e ∙ ap need_of (sym (row_source h))
 
-  pub need_of_other : t ≡ false → (Ok (record { codes = 0; numbers = 0 })) ≡ need_of (draw_row row items)
+  pub need_of_other : t ≡ false → Ok (0, 0) ≡ need_of (draw_row row items)
   need_of_other h = rw (row_other h)
 
 pub ruleset row_needs = (need_of_source, need_of_other)
@@ -72,12 +73,12 @@ need_refused (Err q) p r e = sym e
 need_refused (Ok cs) p r e = refused_accepted r (size_of cs) e
 
 -- what a need that is told says of the drawing
-need_told : (o : Outcome (List PathCommand)) (c n : ℕ) → (Ok (record { codes = c; numbers = n })) ≡ need_of o → (o ≡ Ok (list_of o)) × (c ≡ length (codes_in o)) × (n ≡ length (numbers_in o))
+need_told : (o : Outcome (List PathCommand)) (c n : ℕ) → Ok (c, n) ≡ need_of o → (o ≡ Ok (list_of o)) × (c ≡ length (codes_in o)) × (n ≡ length (numbers_in o))
 need_told o c n e =
     let d = drawn_needs o (c, n) (sym e) in
     (d.0, sym (ap (λ (k : ℕ × ℕ). k.0) d.1), sym (ap (λ (k : ℕ × ℕ). k.1) d.1))
 
-pub need_room : (o p : Outcome (List PathCommand)) (c n : ℕ) → (Ok (record { codes = c; numbers = n })) ≡ need_of o → need_of (followed_by o p) ≡ need_after c n (need_of p)
+pub need_room : (o p : Outcome (List PathCommand)) (c n : ℕ) → Ok (c, n) ≡ need_of o → need_of (followed_by o p) ≡ need_after c n (need_of p)
 unfolding followed_by need_after
 need_room (Err q) p c n e = refused_accepted q (c, n) (sym e)
 need_room (Ok cs) (Err r) c n e = refl
@@ -87,7 +88,7 @@ need_room (Ok cs) (Ok ds) c n e =
     ap length (codes_append cs ds) ∙ length-append (codes_of cs) (codes_of ds) ∙ ap (λ (k : ℕ). k + length (codes_of ds)) (sym s.1) in
     let b : length (numbers_of (cs ++ ds)) ≡ n + length (numbers_of ds) =
     ap length (numbers_append cs ds) ∙ length-append (numbers_of cs) (numbers_of ds) ∙ ap (λ (k : ℕ). k + length (numbers_of ds)) (sym s.2) in
-    (λ i. (Of (a i) (b i)))
+    (λ i. Ok (a i, b i))
 
 after_after : (a b c d : ℕ) (x : Outcome (ℕ × ℕ)) → need_after a b (need_after c d x) ≡ need_after (a + c) (b + d) x
 unfolding need_after
@@ -95,21 +96,21 @@ after_after a b c d (Err r) = refl
 after_after a b c d (Ok m) =
     let e : a + (c + m.0) ≡ a + c + m.0 = omega arith in
     let f : b + (d + m.1) ≡ b + d + m.1 = omega arith in
-    (λ i. (Of (e i) (f i)))
+    (λ i. Ok (e i, f i))
 
 after_none : (x : Outcome (ℕ × ℕ)) → need_after 0 0 x ≡ x
 unfolding need_after
 after_none (Err r) = refl
-after_none (Ok m) = λ i. (Of (zero-add m.0 i) (zero-add m.1 i))
+after_none (Ok m) = λ i. Ok (zero-add m.0 i, zero-add m.1 i)
 
 -- ---- rows_need
 
 -- a row has at most 1,026 commands of at most 6 numbers
-row_few : (row : ItemRow) (items : List Float) (c n : ℕ) → (Ok (record { codes = c; numbers = n })) ≡ need_of (draw_row row items) → (c ≤ 1026) × (n ≤ 6156)
+row_few : (row : ItemRow) (items : List Float) (c n : ℕ) → Ok (c, n) ≡ need_of (draw_row row items) → (c ≤ 1026) × (n ≤ 6156)
 unfolding draw_row
 row_few row items c n = go (is_source_row row)
   where
-    go : (b : Bool) → (Ok (record { codes = c; numbers = n })) ≡ need_of (cond b (draw_source row items) (Ok [])) → (c ≤ 1026) × (n ≤ 6156)
+    go : (b : Bool) → Ok (c, n) ≡ need_of (cond b (draw_source row items) (Ok [])) → (c ≤ 1026) × (n ≤ 6156)
     go true f =
         let s = need_told (draw_source row items) c n f in
         let cs = list_of (draw_source row items) in
@@ -146,14 +147,14 @@ module _ (rows : List ℕ) (m : ℕ) (items : List Float) where
     pub row_inside : i < m → m ≤ 256 → 6 * m ≤ length rows → 6 * i + 6 ≤ length rows
     row_inside h few inside = omega arith
 
-    module _ (h : i < m) (row : ItemRow) (row_is : row ≡ item_row rows i) (need : Outcome Size) (need_is : need ≡ need_of (draw_row row items)) where
+    module _ (h : i < m) (row : ItemRow) (row_is : row ≡ item_row rows i) (need : Outcome Size) (need_is : mapped pair_of need ≡ need_of (draw_row row items)) where
       abbrev here : Outcome (List PathCommand)
       here = draw_row (item_row rows i) items
 
       abbrev later : Outcome (List PathCommand)
       later = draw_rows (rows_from rows (i + 1) (m - (i + 1))) items
 
-      need_at : need ≡ need_of here
+      need_at : mapped pair_of need ≡ need_of here
       need_at = need_is ∙ ap (λ (r : ItemRow). need_of (draw_row r items)) row_is
 
       split_need : need_after codes numbers (need_of (followed_by here later)) ≡ need_of (draw_rows (rows_from rows 0 m) items)
@@ -161,11 +162,17 @@ module _ (rows : List ℕ) (m : ℕ) (items : List Float) where
 
       pub needing_refused : (r : Refusal) → need ≡ Err r → Err r ≡ need_of (draw_rows (rows_from rows 0 m) items)
       unfolding need_after
-      needing_refused r e = sym (ap (need_after codes numbers) (need_refused here later r (sym (e) ∙ need_at))) ∙ split_need
+      needing_refused r e = sym (ap (need_after codes numbers) (need_refused here later r (ap (mapped pair_of) (sym e) ∙ need_at))) ∙ split_need
 
-      module _ (c n : ℕ) (e : need ≡ Ok (record { codes = c; numbers = n })) where
-        told : (Ok (record { codes = c; numbers = n })) ≡ need_of here
-        told = sym (e) ∙ need_at
+      module _ (size : Size) (e : need ≡ Ok size) where
+        abbrev c : ℕ
+        c = size.codes
+
+        abbrev n : ℕ
+        n = size.numbers
+
+        told : Ok (c, n) ≡ need_of here
+        told = ap (mapped pair_of) (sym e) ∙ need_at
 
         few : (c ≤ 1026) × (n ≤ 6156)
         few = row_few (item_row rows i) items c n told
@@ -184,10 +191,10 @@ module _ (rows : List ℕ) (m : ℕ) (items : List Float) where
           few_numbers = omega (arith, few.1);
         }
 
-    pub needing_end : m ≤ i → (Ok (record { codes = codes; numbers = numbers })) ≡ need_of (draw_rows (rows_from rows 0 m) items)
+    pub needing_end : m ≤ i → Ok (codes, numbers) ≡ need_of (draw_rows (rows_from rows 0 m) items)
     unfolding need_after
     needing_end h =
-        sym (λ k. (Of (add-zero codes k) (add-zero numbers k)))
+        sym (λ k. Ok (add-zero codes k, add-zero numbers k))
         ∙ ap (λ (o : Outcome (List PathCommand)). need_after codes numbers (need_of o)) (sym (rows_over i h))
         ∙ w.rest
 
@@ -386,21 +393,21 @@ module _ (rows : List ℕ) (m : ℕ) (items : List Float) (codes₀ : List ℕ) 
 pub ruleset rows_writes = (joining_start, row_there, codes_joined, numbers_joined, row_drawn, codes_there, numbers_there, joining_more)
 
 -- ---- join_rows
-module _ (o : Outcome (List PathCommand)) (codes : List ℕ) (numbers : List Float) (need : Outcome Size) (is : need ≡ need_of o) where
+module _ (o : Outcome (List PathCommand)) (codes : List ℕ) (numbers : List Float) (need : Outcome Size) (is : mapped pair_of need ≡ need_of o) where
   abbrev fits : List PathCommand → Bool
   fits = in_buffers (length codes) (length numbers)
 
   pub need_unfilled : (r : Refusal) → need ≡ Err r → FilledBoth (fitted fits o) (refusal_number r) 0 0 codes codes numbers numbers
   unfolding fitted
-  need_unfilled r e = go o (sym (e) ∙ is)
+  need_unfilled r e = go o (ap (mapped pair_of) (sym e) ∙ is)
     where
       go : (p : Outcome (List PathCommand)) → Err r ≡ need_of p → FilledBoth (fitted fits p) (refusal_number r) 0 0 codes codes numbers numbers
       go (Err q) f = let x : r ≡ q = cc in rw x (both_unfilled q codes numbers)
       go (Ok cs) f = refused_accepted r (size_of cs) f
 
-  module _ (c n : ℕ) (e : need ≡ Ok (record { codes = c; numbers = n })) where
-    told_here : (o ≡ Ok (list_of o)) × (c ≡ length (codes_in o)) × (n ≡ length (numbers_in o))
-    told_here = need_told o c n (sym (e) ∙ is)
+  module _ (size : Size) (e : need ≡ Ok size) where
+    told_here : (o ≡ Ok (list_of o)) × (size.codes ≡ length (codes_in o)) × (size.numbers ≡ length (numbers_in o))
+    told_here = need_told o size.codes size.numbers (ap (mapped pair_of) (sym e) ∙ is)
 
     pub need_drawn : is_accepted o ≡ true
     need_drawn = rw told_here.0
@@ -408,18 +415,18 @@ module _ (o : Outcome (List PathCommand)) (codes : List ℕ) (numbers : List Flo
     refused_by : fits (list_of o) ≡ false → FilledBoth (fitted fits o) 11 0 0 codes codes numbers numbers
     refused_by e = rw told_here.0 (rw (fitted_refused fits (list_of o) e) (both_unfilled BufferTooSmall codes numbers))
 
-    pub need_codes_short : length codes < c → FilledBoth (fitted fits o) 11 0 0 codes codes numbers numbers
+    pub need_codes_short : length codes < size.codes → FilledBoth (fitted fits o) 11 0 0 codes codes numbers numbers
     need_codes_short h = refused_by (rw (lt-leb (length (codes_in o)) (length codes) (omega (arith, told_here.1))))
 
-    module _ (h : c ≤ length codes) where
+    module _ (h : size.codes ≤ length codes) where
       pub need_codes_room : length (codes_in o) ≤ length codes
       need_codes_room = omega (arith, told_here.1)
 
-      pub need_numbers_short : length numbers < n → FilledBoth (fitted fits o) 11 0 0 codes codes numbers numbers
+      pub need_numbers_short : length numbers < size.numbers → FilledBoth (fitted fits o) 11 0 0 codes codes numbers numbers
       need_numbers_short g =
           refused_by (rw (le-leb (length (codes_in o)) (length codes) need_codes_room, lt-leb (length (numbers_in o)) (length numbers) (omega (arith, told_here.2))))
 
-      module _ (g : n ≤ length numbers) where
+      module _ (g : size.numbers ≤ length numbers) where
         pub need_numbers_room : length (numbers_in o) ≤ length numbers
         need_numbers_room = omega (arith, told_here.2)
 
@@ -427,13 +434,13 @@ module _ (o : Outcome (List PathCommand)) (codes : List ℕ) (numbers : List Flo
         fits_both = rw (le-leb (length (codes_in o)) (length codes) need_codes_room, le-leb (length (numbers_in o)) (length numbers) need_numbers_room)
 
         pub need_written : (codes' : List ℕ) (numbers' : List Float) → codes' ≡ sets codes 0 (codes_in o) → numbers' ≡ sets numbers 0 (numbers_in o)
-            → FilledBoth (fitted fits o) 0 c n codes codes' numbers numbers'
+            → FilledBoth (fitted fits o) 0 size.codes size.numbers codes codes' numbers numbers'
         need_written codes' numbers' p q =
             rw told_here.0
             (rw (fitted_accepted fits (list_of o) fits_both)
             (record {
-              codes_filled = filled (codes_in o) codes codes' c need_codes_room told_here.1 p;
-              numbers_filled = filled (numbers_in o) numbers numbers' n need_numbers_room told_here.2 q;
+              codes_filled = filled (codes_in o) codes codes' size.codes need_codes_room told_here.1 p;
+              numbers_filled = filled (numbers_in o) numbers numbers' size.numbers need_numbers_room told_here.2 q;
             }))
 
 pub ruleset joins = (need_unfilled, need_drawn, need_codes_short, need_codes_room, need_numbers_short, need_numbers_room, need_written)
@@ -490,7 +497,7 @@ module _ (rows : List ℕ) (n : ℕ) (items : List Float) (k : Decision) (is : s
         → FilledBoth (fitted (in_buffers (length codes) (length numbers)) merged) (number_of r) (codes_told r) (numbers_told r) codes codes' numbers numbers'
     merge_joined codes codes' numbers numbers' r f = rw (← joined_is) f
 
-    pub merge_need_joined : (r : Outcome Size) → r ≡ need_of (draw_rows (rows_from rows 0 m) items) → r ≡ need_of merged
+    pub merge_need_joined : (r : Outcome Size) → mapped pair_of r ≡ need_of (draw_rows (rows_from rows 0 m) items) → mapped pair_of r ≡ need_of merged
     merge_need_joined r f = f ∙ ap need_of joined_is
 
 pub ruleset merges = (merge_refused, merge_few, merge_inside, merge_joined)

@@ -15,6 +15,7 @@ use item::ItemRow;
 use merge::Decision;
 
 // What a row needs: nothing where it is no source.
+#[tactic(auto, using(crate::proofs::Ways::row_needs))]
 fn row_need(row: ItemRow, items: &[f32]) -> Outcome<Size>
     ensures { mapped pair_of result ≡ need_of (draw_row row items.now) }
 {
@@ -29,6 +30,7 @@ fn row_need(row: ItemRow, items: &[f32]) -> Outcome<Size>
 }
 
 // What the sources among the first m rows need together, or the first refusal of one.
+#[tactic(auto, using(crate::proofs::Ways::rows_needs))]
 fn rows_need(rows: &[u32], m: usize, items: &[f32]) -> Outcome<Size>
     requires { (m ≤ 256) × (6 * m ≤ length rows.now) }
     ensures { mapped pair_of result ≡ need_of (draw_rows (rows_from rows.now 0 m) items.now) }
@@ -44,6 +46,7 @@ fn rows_need(rows: &[u32], m: usize, items: &[f32]) -> Outcome<Size>
 }
 
 // Writes what a row draws at places of buffers that it fits, and gives the places after it.
+#[tactic(auto, using(crate::proofs::Ways::row_writes))]
 fn write_row(
     row: ItemRow,
     items: &[f32],
@@ -77,6 +80,7 @@ fn write_row(
 }
 
 // Writes what the first m rows draw from the start of buffers that it fits.
+#[tactic(auto, using(crate::proofs::Ways::rows_writes))]
 fn write_rows(rows: &[u32], m: usize, items: &[f32], codes: &mut [u8], numbers: &mut [f32])
     requires m_in_bounds { 6 * m ≤ length rows.now }
     requires value { is_accepted (draw_rows (rows_from rows.now 0 m) items.now) ≡ true }
@@ -95,6 +99,7 @@ fn write_rows(rows: &[u32], m: usize, items: &[f32], codes: &mut [u8], numbers: 
 }
 
 // Draws the sources among the first m rows into two buffers, if they fit.
+#[tactic(auto, using(crate::proofs::Ways::joins))]
 fn join_rows(rows: &[u32], m: usize, items: &[f32], codes: &mut [u8], numbers: &mut [f32]) -> Outcome<Size>
     requires { (m ≤ 256) × (6 * m ≤ length rows.now) }
     ensures { FilledBoth
@@ -111,6 +116,7 @@ fn join_rows(rows: &[u32], m: usize, items: &[f32], codes: &mut [u8], numbers: &
 }
 
 // Draws the merge of the first n rows into two buffers.
+#[tactic(auto, using(crate::proofs::Ways::merges))]
 pub fn draw_merge(
     rows: &[u32],
     n: usize,
@@ -130,6 +136,7 @@ pub fn draw_merge(
 }
 
 // What the merge of the first n rows needs, or why it is refused.
+#[tactic(auto, using(crate::proofs::Ways::merge_needs))]
 pub fn merge_need(rows: &[u32], n: usize, items: &[f32]) -> Outcome<Size>
     ensures { mapped pair_of result ≡ need_of (draw_merge rows.now n items.now) }
 {

@@ -1,2 +1,2 @@
--- What the proofs of `matrix` cite.
-pub mod Ways
+-- What callers of `matrix` cite.
+pub mod Rotation

@@ -7,6 +7,7 @@ ghost use Rattle.ieee.specs.Limit.{within};
 ghost use Rattle.matrix.specs.Matrix as spec;
 
 use angle::Direction;
+use point::Point;
 
 // Sends (p, q) to (a·p + c·q + e, b·p + d·q + f).
 #[derive(Clone, Copy)]
@@ -19,82 +20,89 @@ pub struct Matrix {
     pub f: f32,
 }
 
-pub fn identity() -> Matrix
-    ensures { result ≡ spec.identity }
-{
-    Matrix {
-        a: 1.0,
-        b: 0.0,
-        c: 0.0,
-        d: 1.0,
-        e: 0.0,
-        f: 0.0,
+impl Matrix {
+    pub fn identity() -> Matrix
+        ensures { result ≡ spec.identity }
+    {
+        Matrix {
+            a: 1.0,
+            b: 0.0,
+            c: 0.0,
+            d: 1.0,
+            e: 0.0,
+            f: 0.0,
+        }
     }
-}
 
-// The product of two: n acts first.
-pub fn concat(m: Matrix, n: Matrix) -> Matrix
-    ensures { result ≡ spec.concat m n }
-{
-    Matrix {
-        a: m.a * n.a + m.c * n.b,
-        b: m.b * n.a + m.d * n.b,
-        c: m.a * n.c + m.c * n.d,
-        d: m.b * n.c + m.d * n.d,
-        e: m.a * n.e + m.c * n.f + m.e,
-        f: m.b * n.e + m.d * n.f + m.f,
+    // The product of two: n acts first.
+    #[tactic(auto, unfolding(crate::specs::Matrix::concat))]
+    pub fn concat(self, n: Matrix) -> Matrix
+        ensures { result ≡ spec.concat self n }
+    {
+        Matrix {
+            a: self.a * n.a + self.c * n.b,
+            b: self.b * n.a + self.d * n.b,
+            c: self.a * n.c + self.c * n.d,
+            d: self.b * n.c + self.d * n.d,
+            e: self.a * n.e + self.c * n.f + self.e,
+            f: self.b * n.e + self.d * n.f + self.f,
+        }
     }
-}
 
-pub fn pre_translate(m: Matrix, x: f32, y: f32) -> Matrix
-    ensures { result ≡ spec.pre_translate m x y }
-{
-    Matrix {
-        a: m.a,
-        b: m.b,
-        c: m.c,
-        d: m.d,
-        e: m.a * x + m.c * y + m.e,
-        f: m.b * x + m.d * y + m.f,
+    #[tactic(auto, unfolding(crate::specs::Matrix::pre_translate))]
+    pub fn pre_translate(self, shift: Point) -> Matrix
+        ensures { result ≡ spec.pre_translate self shift.x shift.y }
+    {
+        Matrix {
+            a: self.a,
+            b: self.b,
+            c: self.c,
+            d: self.d,
+            e: self.a * shift.x + self.c * shift.y + self.e,
+            f: self.b * shift.x + self.d * shift.y + self.f,
+        }
     }
-}
 
-pub fn pre_scale(m: Matrix, x: f32, y: f32) -> Matrix
-    ensures { result ≡ spec.pre_scale m x y }
-{
-    Matrix {
-        a: m.a * x,
-        b: m.b * x,
-        c: m.c * y,
-        d: m.d * y,
-        e: m.e,
-        f: m.f,
+    #[tactic(auto, unfolding(crate::specs::Matrix::pre_scale))]
+    pub fn pre_scale(self, scale: Point) -> Matrix
+        ensures { result ≡ spec.pre_scale self scale.x scale.y }
+    {
+        Matrix {
+            a: self.a * scale.x,
+            b: self.b * scale.x,
+            c: self.c * scale.y,
+            d: self.d * scale.y,
+            e: self.e,
+            f: self.f,
+        }
     }
-}
 
-// The product with a rotation into a direction.
-fn rotated(m: Matrix, w: Direction) -> Matrix
-    ensures { result ≡ spec.rotated m w }
-{
-    Matrix {
-        a: m.a * w.cosine + m.c * w.sine,
-        b: m.b * w.cosine + m.d * w.sine,
-        c: m.a * -w.sine + m.c * w.cosine,
-        d: m.b * -w.sine + m.d * w.cosine,
-        e: m.e,
-        f: m.f,
+    // The product with a rotation into a direction.
+    #[tactic(auto, unfolding(crate::specs::Matrix::rotated))]
+    fn rotated(self, w: Direction) -> Matrix
+        ensures { result ≡ spec.rotated self w }
+    {
+        Matrix {
+            a: self.a * w.cosine + self.c * w.sine,
+            b: self.b * w.cosine + self.d * w.sine,
+            c: self.a * -w.sine + self.c * w.cosine,
+            d: self.b * -w.sine + self.d * w.cosine,
+            e: self.e,
+            f: self.f,
+        }
     }
-}
 
-// A rotation by degrees, at most 1,048,576 of them either way. A zero angle leaves the matrix as it is.
-pub fn pre_rotate(m: Matrix, degrees: f32) -> Matrix
-    requires { within number_limit degrees ≡ true }
-    ensures { result ≡ spec.pre_rotate m degrees }
-{
-    let turn = angle::turn(degrees);
-    if turn == 0 {
-        m
-    } else {
-        rotated(m, angle::direction_at(turn))
+    // A rotation by degrees, at most 1,048,576 of them either way. A zero angle leaves the matrix as it is.
+    #[tactic(auto, unfolding(crate::specs::Matrix::pre_rotate))]
+    pub fn pre_rotate(self, degrees: f32) -> Matrix
+        requires { within number_limit degrees ≡ true }
+        ensures { result ≡ spec.pre_rotate self degrees }
+    {
+        let turn = angle::turn(degrees);
+        if turn == 0 {
+            self
+        } else {
+            self.rotated(angle::direction_at(turn))
+        }
     }
 }

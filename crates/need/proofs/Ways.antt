@@ -8,7 +8,7 @@ use lib.Ieee.{Float}
 use lib.ListN.{length, take, drop}
 use Rattle.command.specs.declared.Refusal.{Refusal}
 use Rattle.command.specs.declared.Size.{Size}
-use Rattle.command.specs.Outcomes.{checked}
+use Rattle.command.specs.Outcomes.{checked, Outcome, mapped}
 use Rattle.command.specs.Buffers.{size_of, need_of, pair_of}
 use Rattle.command.proofs.Verdicts.{behind_refused, behind_passed}
 use Rattle.path.specs.Path.{path_commands}
@@ -55,7 +55,7 @@ module _ (row : ItemRow) (items : List Float) (u : Outcome (Unit {0})) (u_is : u
   source_turned r e = rw (behind_refused (source_checks row items) u u_is r e (shape_drawn row (drop row.place items)))
 
   pub source_counted : u ≡ Ok tt → (k : Outcome (ℕ × Shape)) (r : Outcome Size) → outcome_of k items ≡ shape_drawn row (drop row.place items)
-      → r ≡ need_of (outcome_of k items) → r ≡ need_of (draw_source row items)
+      → mapped pair_of r ≡ need_of (outcome_of k items) → mapped pair_of r ≡ need_of (draw_source row items)
   source_counted e k r is f = f ∙ ap need_of (source_made row items u u_is e k is)
 
 pub ruleset source_needs = (source_turned, source_counted, behind_checks)
@@ -72,7 +72,7 @@ module _ (row : List ℕ) (items : List Float) (u : Outcome (Unit {0})) (u_is : 
     item_source_turned r f = source_turned first items w w_is r f ∙ ap need_of (item_drawn row items u u_is e first is)
 
     pub item_counted : w ≡ Ok tt → (k : Outcome (ℕ × Shape)) (r : Outcome Size) → outcome_of k items ≡ shape_drawn first (drop first.place items)
-        → r ≡ need_of (outcome_of k items) → r ≡ need_of (draw_item row items)
+        → mapped pair_of r ≡ need_of (outcome_of k items) → mapped pair_of r ≡ need_of (draw_item row items)
     item_counted f k r made g = source_counted first items w w_is f k r made g ∙ ap need_of (item_drawn row items u u_is e first is)
 
 pub ruleset item_needs = (item_turned, row_whole, item_source_turned, item_counted, behind_checks)

@@ -1,83 +1,109 @@
 -- What each way out of the functions on a field owes, as the code meets it: a premise for each test and for each call's result.
 -- Assumes nothing.
 use mathlib.Core.Path.{◌≡◌, refl, sym, ap, ◌∙◌}
-use mathlib.Core.Bool.{Bool, true, false, cond, ◌&&◌, true≢false, and-eq-true_iff}
+use mathlib.Core.Bool.{Bool, true, false, not, cond, ◌&&◌, true≢false, and-eq-true_iff}
 use mathlib.Core.List.{List, [], ◌∷◌}
-use Prim.Native.Nat.{ℕ, suc, ◌+◌, ◌-◌, ◌*◌, ◌%◌, ◌^◌, ◌≤◌, ◌<◌}
+use Prim.Native.Nat.{ℕ, zero, suc, ◌+◌, ◌-◌, ◌*◌, ◌%◌, ◌^◌, ◌≤◌, ◌<◌}
 use native.Mathlib.Nat.{le_refl}
 use native.Mathlib.Numerals.{add-one}
 use native.Mathlib.Omega.{arith}
-use lib.Dec.{eqb, leb}
+use lib.Dec.{eqb, leb, ltb}
 use lib.Ieee.{Float, nan, inf, fin, is_nan, of_bits, binary32}
 use lib.Ieee.Bits.{nan_bits_is, nan_bits_above}
 use lib.ListN.{length, get_or, take, drop, length-drop, drop_of_length-le}
 use lib.Seq.{drop-cons, take_all}
-use borrow.Author.Tests.{eq-eqb, ne_eqb, lt-ltb, le-leb, lt-leb, leb-true}
+use borrow.Author.Tests.{eq-eqb, lt-ltb, le-leb, lt-leb, leb-true, ltb-false}
+use Rattle.std.specs.Prelude.{◌==◌, Option, Some, None}
+use Rattle.std.specs.Char.{is_ascii_digit}
+use Rattle.std.specs.List.{position}
+use Rattle.std.specs.List.{position_or_len}
+use Rattle.std.proofs.lemmas.List.Quantifiers.{position-Some}
+use Rattle.std.proofs.lemmas.List.Sums.{fails_before_first}
 use Rattle.ieee.specs.Pattern.{infinity}
 use Rattle.plate_read.specs.Text.{is_digit, all_digits, is_numeral, value_after, unblanked, largest_pattern, field_value, is_field}
-use Rattle.plate_read.specs.Fields.{no_pattern, pattern_after, field_pattern}
+use Rattle.plate_read.specs.Fields.{pattern_after, field_pattern}
 
 -- ---- blanks
-module _ (b : ℕ) (bs : List ℕ) where
-  unblanked_blank : b ≡ 32 → unblanked (b ∷ bs) ≡ unblanked bs
-  unfolding unblanked
-  unblanked_blank e = rw (eq-eqb b 32 e)
+-- the test by which the code looks for the first byte that is no blank
+abbrev pub some_byte : ℕ → Bool
+some_byte b = not (b == 32)
 
-  unblanked_other : (b ≡ 32 → ⊥) → unblanked (b ∷ bs) ≡ b ∷ bs
+blank_is : (b : ℕ) → some_byte b ≡ false → eqb b 32 ≡ true
+blank_is b e = go (eqb b 32) e
+  where
+    go : (t : Bool) → not t ≡ false → t ≡ true
+    go true e = refl
+    go false e = sym e
+
+some_is : (b : ℕ) → some_byte b ≡ true → eqb b 32 ≡ false
+some_is b e = go (eqb b 32) e
+  where
+    go : (t : Bool) → not t ≡ true → t ≡ false
+    go true e = sym e
+    go false e = refl
+
+module _ (b : ℕ) (bs : List ℕ) where
+  unblanked_blank : some_byte b ≡ false → unblanked (b ∷ bs) ≡ unblanked bs
   unfolding unblanked
-  unblanked_other e = rw (ne_eqb b 32 e)
+  unblanked_blank e = rw (blank_is b e)
+
+  unblanked_other : some_byte b ≡ true → unblanked (b ∷ bs) ≡ b ∷ bs
+  unfolding unblanked
+  unblanked_other e = rw (some_is b e)
 
 unblanked_none : unblanked [] ≡ []
 unfolding unblanked
 unblanked_none = refl
 
--- the field from place i on has the same digits
+-- blanks at the start change nothing
+unblanked_after : (field : List ℕ) (i : ℕ) → i ≤ length field → ((k : ℕ) → k < i → some_byte (get_or field k 0) ≡ false) → unblanked field ≡ unblanked (drop i field)
+unblanked_after field zero l h = refl
+unblanked_after [] (suc i) l h = absurd (omega arith)
+unblanked_after (b ∷ bs) (suc i) l h = unblanked_blank b bs (h 0 (omega arith)) ∙ unblanked_after bs i (omega arith) (λ k m. h (suc k) (omega arith))
+
 module _ (field : List ℕ) where
-  pub blanks_start : unblanked (drop 0 field) ≡ unblanked field
-  blanks_start = refl
+  all_blank : position some_byte field ≡ None → (k : ℕ) → k < length field → some_byte (get_or field k 0) ≡ false
+  all_blank e k h = go (ltb (position_or_len some_byte field) (length field)) refl e
+    where
+      go : (t : Bool) → ltb (position_or_len some_byte field) (length field) ≡ t → cond t (Some (position_or_len some_byte field)) None ≡ None → some_byte (get_or field k 0) ≡ false
+      go true t_is e = cc
+      go false t_is e = let l = ltb-false (position_or_len some_byte field) (length field) t_is in fails_before_first some_byte field k 0 (omega arith)
 
-  module _ (i : ℕ) (left : unblanked (drop i field) ≡ unblanked field) where
-    pub blanks_all : length field ≤ i → drop i field ≡ unblanked field
-    blanks_all h =
-        let e : drop i field ≡ [] = drop_of_length-le field {i = i} h in
-        e ∙ sym unblanked_none ∙ ap unblanked (sym e) ∙ left
+  pub found_none : position some_byte field ≡ None → unblanked field ≡ []
+  found_none e =
+      unblanked_after field (length field) (le_refl (length field)) (all_blank e) ∙ ap unblanked (drop_of_length-le field {i = length field} (le_refl (length field))) ∙ unblanked_none
 
-    module _ (h : i < length field) where
-      here : drop i field ≡ get_or field i 0 ∷ drop (suc i) field
-      here = drop-cons field i 0 h
+  module _ (i : ℕ) (e : position some_byte field ≡ Some i) where
+    found : (i < length field) × (some_byte (get_or field i 0) ≡ true) × ((k : ℕ) → k < i → some_byte (get_or field k 0) ≡ false)
+    found = position-Some some_byte field i 0 e
 
-      pub blanks_next : get_or field i 0 ≡ 32 → unblanked (drop (i + 1) field) ≡ unblanked field
-      blanks_next e = rw add-one (sym (unblanked_blank (get_or field i 0) (drop (suc i) field) e) ∙ ap unblanked (sym here) ∙ left)
+    pub found_inside : i < length field
+    found_inside = found.0
 
-      pub blanks_end : (get_or field i 0 ≡ 32 → ⊥) → drop i field ≡ unblanked field
-      blanks_end e = here ∙ sym (unblanked_other (get_or field i 0) (drop (suc i) field) e) ∙ ap unblanked (sym here) ∙ left
-
-pub ruleset blanked = (blanks_start, blanks_all, blanks_next, blanks_end)
-
--- ---- is_digit
-module _ (b : ℕ) where
-  pub digit_low : b < 48 → false ≡ is_digit b
-  unfolding is_digit
-  digit_low h = rw (lt-leb 48 b h)
-
-  pub digit_high : 48 ≤ b → leb b 57 ≡ is_digit b
-  unfolding is_digit
-  digit_high h = rw (le-leb 48 b h)
-
-  digit_between : is_digit b ≡ true → (48 ≤ b) × (b ≤ 57)
-  unfolding is_digit
-  digit_between e = let s = (and-eq-true_iff (leb 48 b) (leb b 57)).0 e in (leb-true 48 b s.0, leb-true b 57 s.1)
-
-pub ruleset digit = (digit_low, digit_high)
+    pub found_some : unblanked field ≡ drop i field
+    found_some =
+        let here : drop i field ≡ get_or field i 0 ∷ drop (suc i) field = drop-cons field i 0 found.0 in
+        unblanked_after field i (let l = found.0 in omega arith) found.2
+        ∙ ap unblanked here
+        ∙ unblanked_other (get_or field i 0) (drop (suc i) field) found.1
+        ∙ sym here
 
 -- ---- digits_value
+digit_same : (b : ℕ) → is_ascii_digit b ≡ is_digit b
+unfolding is_digit
+digit_same b = refl
+
+digit_between : (b : ℕ) → is_digit b ≡ true → (48 ≤ b) × (b ≤ 57)
+unfolding is_digit
+digit_between b e = let s = (and-eq-true_iff (leb 48 b) (leb b 57)).0 e in (leb-true 48 b s.0, leb-true b 57 s.1)
+
 value_grows : (v : ℕ) (bs : List ℕ) → v ≤ value_after v bs
 unfolding value_after
 value_grows v [] = le_refl v
 value_grows v (b ∷ bs) = let e = value_grows (v * 10 + (b - 48)) bs in omega arith
 
 module _ (v b : ℕ) (bs : List ℕ) where
-  pattern_other : is_digit b ≡ false → pattern_after v (b ∷ bs) ≡ no_pattern
+  pattern_other : is_digit b ≡ false → pattern_after v (b ∷ bs) ≡ None
   unfolding pattern_after all_digits
   pattern_other e = rw e
 
@@ -85,18 +111,18 @@ module _ (v b : ℕ) (bs : List ℕ) where
   unfolding pattern_after all_digits value_after
   pattern_digit e = rw e
 
-pattern_large : (v : ℕ) (bs : List ℕ) → largest_pattern < v → pattern_after v bs ≡ no_pattern
+pattern_large : (v : ℕ) (bs : List ℕ) → largest_pattern < v → pattern_after v bs ≡ None
 unfolding pattern_after
 pattern_large v bs h =
     let g = value_grows v bs in
     let l : largest_pattern < value_after v bs = omega arith in
     rw (lt-leb (value_after v bs) largest_pattern l) (go (all_digits bs))
   where
-    go : (a : Bool) → cond (a && false) (value_after v bs) no_pattern ≡ no_pattern
+    go : (a : Bool) → cond (a && false) (Some (value_after v bs)) None ≡ None
     go true = refl
     go false = refl
 
-pattern_end : (v : ℕ) → v ≤ largest_pattern → pattern_after v [] ≡ v
+pattern_end : (v : ℕ) → v ≤ largest_pattern → pattern_after v [] ≡ Some v
 unfolding pattern_after all_digits value_after
 pattern_end v h = rw (le-leb v largest_pattern h)
 
@@ -106,44 +132,50 @@ module _ (digits : List ℕ) where
   digits_start = refl
 
   module _ (i value : ℕ) (left : pattern_after value (drop i digits) ≡ pattern_after 0 digits) where
-    pub digits_all : value ≤ 4294967295 → length digits ≤ i → value ≡ pattern_after 0 digits
+    pub digits_all : value < 4294967296 → length digits ≤ i → Some value ≡ pattern_after 0 digits
     digits_all small h =
         let e : drop i digits ≡ [] = drop_of_length-le digits {i = i} h in
-        sym (pattern_end value small) ∙ ap (pattern_after value) (sym e) ∙ left
+        sym (pattern_end value (omega arith)) ∙ ap (pattern_after value) (sym e) ∙ left
 
-    module _ (h : i < length digits) (t : Bool) (t_is : t ≡ is_digit (get_or digits i 0)) where
+    module _ (h : i < length digits) (t : Bool) (t_is : t ≡ is_ascii_digit (get_or digits i 0)) where
       abbrev b : ℕ
       b = get_or digits i 0
 
       first : pattern_after value (b ∷ drop (suc i) digits) ≡ pattern_after 0 digits
       first = ap (pattern_after value) (sym (drop-cons digits i 0 h)) ∙ left
 
-      pub digits_other : t ≡ false → 4294967296 ≡ pattern_after 0 digits
-      digits_other e = sym (pattern_other value b (drop (suc i) digits) (sym t_is ∙ e)) ∙ first
+      same : t ≡ is_digit b
+      same = t_is ∙ digit_same b
+
+      pub digits_other : t ≡ false → None ≡ pattern_after 0 digits
+      digits_other e = sym (pattern_other value b (drop (suc i) digits) (sym same ∙ e)) ∙ first
 
       module _ (e : t ≡ true) where
         between : (48 ≤ b) × (b ≤ 57)
-        between = digit_between b (sym t_is ∙ e)
+        between = digit_between b (sym same ∙ e)
 
         pub digit_starts : 48 ≤ b
         digit_starts = between.0
 
-        pub digit_fits : b - 48 < 18446744073709551616
-        digit_fits = let l = between.1 in omega arith
-
-        pub value_fits : value ≤ 4294967295 → value * 10 + (b - 48) < 18446744073709551616
-        value_fits small = let l = between.1 in omega arith
-
         more : pattern_after (value * 10 + (b - 48)) (drop (suc i) digits) ≡ pattern_after 0 digits
-        more = sym (pattern_digit value b (drop (suc i) digits) (sym t_is ∙ e)) ∙ first
+        more = sym (pattern_digit value b (drop (suc i) digits) (sym same ∙ e)) ∙ first
 
-        pub digits_large : 4294967295 < value * 10 + (b - 48) → 4294967296 ≡ pattern_after 0 digits
-        digits_large l = sym (pattern_large (value * 10 + (b - 48)) (drop (suc i) digits) l) ∙ more
+        large : largest_pattern < value * 10 + (b - 48) → None ≡ pattern_after 0 digits
+        large l = sym (pattern_large (value * 10 + (b - 48)) (drop (suc i) digits) l) ∙ more
 
-        pub digits_next : pattern_after (value * 10 + (b - 48)) (drop (i + 1) digits) ≡ pattern_after 0 digits
-        digits_next = rw add-one more
+        pub digits_tens : (value * 10 < 4294967296 → ⊥) → None ≡ pattern_after 0 digits
+        digits_tens n = let l : 4294967296 ≤ value * 10 = omega arith in large (omega arith)
 
-pub ruleset values = (digits_start, digits_all, digits_other, digit_starts, digit_fits, value_fits, digits_large, digits_next)
+        module _ (tens : ℕ) (tens_is : tens ≡ value * 10) where
+          pub digits_large : (tens + (b - 48) < 4294967296 → ⊥) → None ≡ pattern_after 0 digits
+          digits_large n = let l : 4294967296 ≤ tens + (b - 48) = omega arith in large (omega arith)
+
+          pub digits_next : (value' : ℕ) → value' ≡ tens + (b - 48) → pattern_after value' (drop (i + 1) digits) ≡ pattern_after 0 digits
+          digits_next value' value_is =
+              let v : value' ≡ value * 10 + (b - 48) = omega arith in
+              rw (v, add-one) more
+
+pub ruleset values = (digits_start, digits_all, digits_other, digit_starts, digits_tens, digits_large, digits_next)
 
 -- ---- field_value
 numeral_digits : (u : List ℕ) → 0 < length u → is_numeral u ≡ all_digits u
@@ -155,29 +187,22 @@ numeral_none : is_numeral [] ≡ false
 unfolding is_numeral
 numeral_none = refl
 
-module _ (field : List ℕ) where
-  pub field_length : (length field ≡ 11 → ⊥) → 4294967296 ≡ field_pattern field
+module _ (field : List ℕ) (l : length field ≡ 11) where
+  pub field_blank : position some_byte field ≡ None → None ≡ field_pattern field
   unfolding field_pattern is_field
-  field_length e = rw (ne_eqb (length field) 11 e)
+  field_blank e = rw (eq-eqb (length field) 11 l, found_none field e, numeral_none)
 
-  module _ (l : length field ≡ 11) (i : ℕ) (rest : drop i field ≡ unblanked field) where
-    pub field_blank : length field ≤ i → 4294967296 ≡ field_pattern field
-    unfolding field_pattern is_field
-    field_blank h =
-        let e : unblanked field ≡ [] = sym rest ∙ drop_of_length-le field {i = i} h in
-        rw (eq-eqb (length field) 11 l, e, numeral_none)
+  module _ (i : ℕ) (e : position some_byte field ≡ Some i) where
+    some : 0 < length (unblanked field)
+    some = let h = found_inside field i e in rw (found_some field i e, length-drop i field) (omega arith)
 
-    module _ (h : i < length field) where
-      some : 0 < length (unblanked field)
-      some = rw (← rest, drop-cons field i 0 h) (omega arith)
+    pub field_digits : (r : Option ℕ) → r ≡ pattern_after 0 (take (length field - i) (drop i field)) → r ≡ field_pattern field
+    unfolding field_pattern is_field pattern_after
+    field_digits r r_is =
+        let whole : take (length field - i) (drop i field) ≡ unblanked field = take_all (length field - i) (drop i field) (rw length-drop (le_refl _)) ∙ sym (found_some field i e) in
+        r_is ∙ rw (whole, eq-eqb (length field) 11 l, numeral_digits (unblanked field) some)
 
-      pub field_digits : (r : ℕ) → r ≡ pattern_after 0 (take (length field - i) (drop i field)) → r ≡ field_pattern field
-      unfolding field_pattern is_field pattern_after
-      field_digits r r_is =
-          let whole : take (length field - i) (drop i field) ≡ unblanked field = take_all (length field - i) (drop i field) (rw length-drop (le_refl _)) ∙ rest in
-          r_is ∙ rw (whole, eq-eqb (length field) 11 l, numeral_digits (unblanked field) some)
-
-pub ruleset fields = (field_length, field_blank, field_digits)
+pub ruleset fields = (field_blank, found_inside, field_digits)
 
 -- what the answer tells of a field
 module _ (field : List ℕ) (e : is_field field ≡ true) where
@@ -188,28 +213,26 @@ module _ (field : List ℕ) (e : is_field field ≡ true) where
       ((and-eq-true_iff (is_numeral (unblanked field)) (leb (field_value field) largest_pattern)).0
       ((and-eq-true_iff (eqb (length field) 11) (is_numeral (unblanked field) && leb (field_value field) largest_pattern)).0 e).1).1
 
-  pub field_pattern_lem : field_pattern field ≡ field_value field
+  pub field_pattern_lem : field_pattern field ≡ Some (field_value field)
   unfolding field_pattern
   field_pattern_lem = rw e
 
-pub pattern_none : (field : List ℕ) → is_field field ≡ false → field_pattern field ≡ no_pattern
+-- a field that gives a value is one, and one that gives none is none
+pub field_good : (field : List ℕ) (v : ℕ) → Some v ≡ field_pattern field → (is_field field ≡ true) × (v ≡ field_value field)
 unfolding field_pattern
-pattern_none field e = rw e
+field_good field v h = go (is_field field) h
+  where
+    go : (a : Bool) → Some v ≡ cond a (Some (field_value field)) None → (a ≡ true) × (v ≡ field_value field)
+    go true h = (refl, cc)
+    go false h = cc
 
-pub field_good : (field : List ℕ) → field_pattern field ≤ largest_pattern → is_field field ≡ true
+pub field_bad : (field : List ℕ) → None ≡ field_pattern field → is_field field ≡ false
 unfolding field_pattern
-field_good field h = go (is_field field) h
+field_bad field h = go (is_field field) h
   where
-    go : (a : Bool) → cond a (field_value field) no_pattern ≤ largest_pattern → a ≡ true
-    go true h = refl
-    go false h = absurd (omega arith)
-
-pub field_bad : (field : List ℕ) → largest_pattern < field_pattern field → is_field field ≡ false
-field_bad field h = go (is_field field) refl
-  where
-    go : (a : Bool) → is_field field ≡ a → is_field field ≡ false
-    go true e = let p = field_pattern_lem field e in let m = field_most field e in absurd (omega arith)
-    go false e = e
+    go : (a : Bool) → None ≡ cond a (Some (field_value field)) None → a ≡ false
+    go true h = cc
+    go false h = refl
 
 -- ---- number
 nan_pattern : (x : Float) → is_nan x ≡ true → nan ≡ x

@@ -1,251 +1,218 @@
--- What each way out of the functions that write the numbers owes, as the code meets it. Assumes nothing.
+-- What each way out of `read_lines` and `read` owes, as the code meets it. Assumes nothing.
 use mathlib.Core.Path.{◌≡◌, refl, sym, ap, ◌∙◌}
-use mathlib.Core.Bool.{Bool, true, false, cond, true≢false}
-use mathlib.Core.List.{List, ◌++◌, map, map-append}
-use Prim.Native.Nat.{ℕ, zero, suc, ◌+◌, ◌-◌, ◌*◌, ◌/◌, ◌≤◌, ◌<◌}
-use native.Mathlib.Numerals.{add-one}
+use mathlib.Core.Bool.{true, cond}
+use mathlib.Core.List.{List, [], ◌++◌, map, map-append, append-nil}
+use Prim.Native.Nat.{ℕ, suc, ◌+◌, ◌-◌, ◌*◌, ◌/◌, ◌≤◌, ◌<◌, min}
+use native.Mathlib.Nat.{le_refl}
 use native.Mathlib.Omega.{arith}
 use lib.Ieee.{Float, of_bits, binary32}
-use lib.ListN.{length, take, drop, set, length-drop, length-set, length-map}
-use lib.Seq.{drop-drop, sets, length-sets}
+use lib.ListN.{length, get_or, take, drop, length-append, length-drop, length-map}
+use denote.Param.Members.{Mut}
+use borrow.Rule.Slice.PartMut.{put_mid}
+use lib.Seq.{sets, sets-eq, drop-drop, length-sets, take_all, take-append_seam, drop-append_seam}
+use Rattle.std.proofs.Math.ListN.{get_or-map}
+use Rattle.std.proofs.Common.{append_assoc}
+use Rattle.std.proofs.lemmas.List.{take_min, drop_min, ext_get_or}
+use Rattle.std.specs.Array.{IsMapOf}
+use Rattle.std.specs.Fn.{Called}
+use Rattle.std.specs.Prelude.{Some, None, Result, Ok, Err}
 use Rattle.command.specs.declared.Refusal.{Refusal}
 use Rattle.command.specs.declared.Refusal.TheVariants.{TooMany, Unlisted}
 use Rattle.command.specs.Buffers.{onto}
 use Rattle.command.proofs.Buffers.{sets_append, sets_onto}
 use Rattle.plate_read.specs.declared.Reading.{Reading}
-use Rattle.plate_read.specs.declared.Reading.TheVariants.{Fault, Sound}
-use Rattle.plate_read.specs.Text.{field_value, is_field, line_form, line_values, Content, faulty, given, before, read_lines, read_text, reading_of, numbers_given}
-use Rattle.plate_read.specs.Fields.{in_form}
-use Rattle.plate_read.proofs.Lines.{form_field, form_rest, form_long, values_length, lines_none, lines_many, lines_broken, lines_next}
-use Rattle.plate_read.proofs.Texts.{numbers_few}
+use Rattle.plate_read.specs.Text.{field_value, line_form, line_values, Content, faulty, given, before, read_lines, read_text, reading_of, numbers_given}
+use Rattle.plate_read.specs.Fields.{line_patterns}
+use Rattle.plate_read.proofs.Lines.{form_long, values_length, patterns_form, patterns_bad, lines_none, lines_many, lines_broken, lines_next}
+use Rattle.plate_read.proofs.Texts.{form_prefix, values_prefix}
 
 -- the numbers with these patterns
 abbrev pub floats : List ℕ → List Float
 floats ps = map (of_bits binary32) ps
 
--- ---- fill_line
--- The fields left at place i are in form and fit the list, and written to it as it is they give the whole.
-pub record FillingLine (text : List ℕ) (at n : ℕ) (l₀ : List Float) (place : ℕ) (l : List Float) (i left to : ℕ) : Type 0 where
-  pub form : line_form left (drop i text) ≡ true
-  pub room : to + left ≤ length l
-  pub last : sets l to (floats (line_values left (drop i text))) ≡ sets l₀ place (floats (line_values n (drop at text)))
+-- ---- pieces of 67 bytes
+-- a piece of a text, as it is cut off, settles what the text's first line gives
+module _ (text line rest : List ℕ) (cut : text ≡ line ++ rest) (size : length line ≡ min 67 (length text)) where
+  line_is : line ≡ take 67 text
+  line_is =
+      sym (take-append_seam line rest) ∙ ap (take (length line)) (sym cut) ∙ ap (λ (k : ℕ). take k text) size ∙ take_min 67 text
+
+  rest_is : rest ≡ drop 67 text
+  rest_is =
+      sym (drop-append_seam line rest) ∙ ap (drop (length line)) (sym cut) ∙ ap (λ (k : ℕ). drop k text) size ∙ drop_min 67 text
+
+  piece_patterns : line_patterns 6 line ≡ line_patterns 6 text
+  unfolding line_patterns
+  piece_patterns =
+      ap (line_patterns 6) line_is ∙ (λ i. cond (form_prefix 0 6 text i) (Some (values_prefix 0 6 text i)) None)
+
+-- ---- read_lines
+-- what a map over an array gave, where each call gave the number with a pattern
+pub mapped_is : {F : Type 0} (g : Mut F (ℕ × Unit {0}) Float) (f : F) (xs : List ℕ) (ys : List Float) (n : ℕ)
+    → ((p q : F) (x : ℕ) (y : Float) → Called g p (x, tt) y q → y ≡ of_bits binary32 x) → IsMapOf g f xs ys n → length xs ≡ n → ys ≡ floats xs
+mapped_is g f xs ys n gives m l =
+    let zero : Float = of_bits binary32 0 in
+    ext_get_or zero ys (floats xs) (m.long ∙ sym l ∙ sym (length-map xs (of_bits binary32)))
+    (λ i h.
+    let long = m.long in
+    let c = m.at i 0 zero (omega arith) in
+    gives c.0 c.1 (get_or xs i 0) (get_or ys i zero) c.2 ∙ sym (get_or-map (of_bits binary32) xs i 0))
+
+-- numbers copied over a part of a list
+copied_is : (l vs : List Float) (i k : ℕ) → k ≡ length vs → i + length vs ≤ length l → put_mid i k l vs ≡ sets l i vs
+copied_is l vs i k k_is room =
+    ap (λ (m : ℕ). take i l ++ (vs ++ drop m (drop i l))) k_is
+    ∙ ap (λ (m : List Float). take i l ++ (vs ++ m)) (drop-drop (length vs) i l)
+    ∙ sym (append_assoc (take i l) vs (drop (i + length vs) l))
+    ∙ sym (sets-eq vs l i room)
+
+abbrev pub reading : ℕ → ℕ → Result Reading Refusal
+reading flag count = Ok (record { closed = flag; count = count })
+
+before_before : (ps qs : List ℕ) (c : Content) → before ps (before qs c) ≡ before (ps ++ qs) c
+unfolding before
+before_before ps qs (faulty r) = refl
+before_before ps qs (given flag rs) = ap (given flag) (sym (append_assoc ps qs rs))
+
+-- The patterns before the rest of the lines, which settles the answer, are written to the list.
+pub record Filling (flag : ℕ) (lines rest : List ℕ) (l₀ l : List Float) (count : ℕ) : Type 0 where
+  pub bound : count ≤ 256
   pub same : length l ≡ length l₀
+  pub patterns : List ℕ
+  pub six : length patterns ≡ 6 * count
+  pub left : read_lines flag 256 lines ≡ before patterns (read_lines flag (256 - count) rest)
+  pub written : l ≡ sets l₀ 0 (floats patterns)
 
-module _ (text : List ℕ) (at n : ℕ) (l₀ : List Float) (place : ℕ) where
-  pub line_start : line_form n (drop at text) ≡ true → place + n ≤ length l₀ → FillingLine text at n l₀ place l₀ at n place
-  line_start e h = record { form = e; room = h; last = refl; same = refl }
+module _ (flag : ℕ) (lines : List ℕ) (l₀ : List Float) where
+  pub fill_start : Filling flag lines lines l₀ l₀ 0
+  unfolding before
+  fill_start = record { bound = omega arith; same = refl; patterns = []; six = omega arith; left = go (read_lines flag 256 lines); written = refl }
+    where
+      go : (c : Content) → c ≡ before [] c
+      go (faulty r) = refl
+      go (given flag ps) = refl
 
-  module _ (l : List Float) (i left to : ℕ) (w : FillingLine text at n l₀ place l i left to) where
-    pub line_end : left ≤ 0 → l ≡ sets l₀ place (floats (line_values n (drop at text)))
-    unfolding line_values
-    line_end h = let e : left ≡ 0 = omega arith in rw e at w.last
+  module _ (text : List ℕ) (l : List Float) (count : ℕ) (w : Filling flag lines text l₀ l count) where
+    pub fill_many : 0 < length text → count ≡ 256 → Err TooMany ≡ reading_of (read_lines flag 256 lines)
+    unfolding before reading_of
+    fill_many h e =
+        let z : 256 - count ≡ 0 = omega arith in
+        ap reading_of (sym (w.left ∙ ap (before w.patterns) (ap (λ (k : ℕ). read_lines flag k text) z ∙ lines_many flag 0 text h)))
 
-    pub line_same : length l ≡ length l₀
-    line_same = w.same
+    module _ (line rest : List ℕ) (cut : text ≡ line ++ rest) (size : length line ≡ min 67 (length text)) (h : 0 < length text) (e : count ≡ 256 → ⊥) where
+      one : 256 - count ≡ suc (256 - (count + 1))
+      one = let b = w.bound in omega arith
 
-    module _ (h : 0 < left) where
-      some : left ≡ suc (left - 1)
-      some = omega arith
+      pub fill_place : 6 * count + 6 ≤ 1536
+      fill_place = let b = w.bound in omega arith
 
-      form : line_form (suc (left - 1)) (drop i text) ≡ true
-      form = ap (λ (k : ℕ). line_form k (drop i text)) (sym some) ∙ w.form
+      pub fill_bad : None ≡ line_patterns 6 line → Err Unlisted ≡ reading_of (read_lines flag 256 lines)
+      unfolding before reading_of
+      fill_bad n =
+          let f = patterns_bad 6 text (n ∙ piece_patterns text line rest cut size) in
+          ap reading_of (sym (w.left ∙ ap (before w.patterns) (ap (λ (k : ℕ). read_lines flag k text) one ∙ lines_broken flag (256 - (count + 1)) text h f)))
 
-      pub line_field : is_field (take 11 (drop i text)) ≡ true
-      line_field = form_field (left - 1) (drop i text) form
-
-      pub line_place : to < length l
-      line_place = let r = w.room in omega arith
-
-      pub line_fits : length text < 18446744073709551616 → i + 11 < 18446744073709551616
-      line_fits g =
-          let f = form_long left (drop i text) w.form in
-          let d = length-drop i text in
-          omega arith
-
-      pub line_next : (p : ℕ) (x : Float) → p ≡ field_value (take 11 (drop i text)) → x ≡ of_bits binary32 p
-          → FillingLine text at n l₀ place (set l to x) (i + 11) (left - 1) (to + 1)
-      unfolding line_values
-      line_next p x p_is x_is =
-          let r = w.room in
-          let place' : length (set l to x) ≡ length l = length-set l to x in
-          let first : x ≡ of_bits binary32 (field_value (take 11 (drop i text))) = x_is ∙ ap (of_bits binary32) p_is in
-          let all : sets l to (floats (line_values (suc (left - 1)) (drop i text))) ≡ sets l₀ place (floats (line_values n (drop at text)))
-          = ap (λ (k : ℕ). sets l to (floats (line_values k (drop i text)))) (sym some) ∙ w.last in
+      fill_next : (ps : List ℕ) (l' : List Float) → Some ps ≡ line_patterns 6 line → l' ≡ sets l (6 * count) (floats ps) → Filling flag lines rest l₀ l' (count + 1)
+      fill_next ps l' p l'_is =
+          let g = patterns_form 6 text ps (p ∙ piece_patterns text line rest cut size) in
+          let ps_six : length ps ≡ 6 = ap length g.1 ∙ values_length 6 text in
+          let long = w.six in
+          let long' = length-append w.patterns ps in
+          let place : 0 + length (floats w.patterns) ≡ 6 * count = ap (λ (k : ℕ). 0 + k) (length-map w.patterns (of_bits binary32)) ∙ omega arith in
           record {
-            form = ap (line_form (left - 1)) (sym (drop-drop 11 i text)) ∙ form_rest (left - 1) (drop i text) form;
-            room = omega arith;
-            last = rw (add-one, ← drop-drop 11 i text, first) all;
-            same = place' ∙ w.same;
+            bound = let b = w.bound in omega arith;
+            same = ap length l'_is ∙ length-sets l (6 * count) (floats ps) ∙ w.same;
+            patterns = w.patterns ++ ps;
+            six = omega arith;
+            left =
+                w.left
+                ∙ ap (before w.patterns)
+                (ap (λ (k : ℕ). read_lines flag k text) one
+                ∙ lines_next flag (256 - (count + 1)) text h g.0
+                ∙ (λ i. before (sym g.1 i) (read_lines flag (256 - (count + 1)) (sym (rest_is text line rest cut size) i))))
+                ∙ before_before w.patterns ps (read_lines flag (256 - (count + 1)) rest);
+            written =
+                l'_is
+                ∙ ap (λ (m : List Float). sets m (6 * count) (floats ps)) w.written
+                ∙ ap (λ (k : ℕ). sets (sets l₀ 0 (floats w.patterns)) k (floats ps)) (sym place)
+                ∙ sym (sets_append (floats w.patterns) (floats ps) l₀ 0)
+                ∙ ap (sets l₀ 0) (sym (map-append (of_bits binary32) w.patterns ps));
           }
 
-pub ruleset line_fills = (line_start, line_end, line_same, line_field, line_place, line_fits, line_next)
+      pub fill_copied : (ps : List ℕ) (k : ℕ) (vs : List Float) → length l₀ ≡ 1536 → Some ps ≡ line_patterns 6 line → vs ≡ floats ps → k ≡ 6 → Filling flag lines rest l₀ (put_mid (6 * count) k l vs) (count + 1)
+      fill_copied ps k vs long p vs_is k_is =
+          let g = patterns_form 6 text ps (p ∙ piece_patterns text line rest cut size) in
+          let s = w.same in
+          let place = fill_place in
+          let six : length vs ≡ 6 = ap length vs_is ∙ length-map ps (of_bits binary32) ∙ ap length g.1 ∙ values_length 6 text in
+          fill_next ps (put_mid (6 * count) k l vs) p (copied_is l vs (6 * count) k (omega arith) (omega arith) ∙ ap (sets l (6 * count)) vs_is)
 
--- ---- texts in form
-module _ (ps : List ℕ) where
-  in_form_before : (c : Content) → in_form (before ps c) ≡ in_form c
-  unfolding in_form before
-  in_form_before (faulty r) = refl
-  in_form_before (given flag qs) = refl
+    module _ (h : length text ≡ 0) where
+      all : read_lines flag 256 lines ≡ given flag w.patterns
+      unfolding before
+      all = w.left ∙ ap (before w.patterns) (lines_none flag (256 - count) text h) ∙ ap (given flag) (append-nil w.patterns)
 
-  numbers_before_lem : (c : Content) → in_form c ≡ true → numbers_given (before ps c) ≡ floats ps ++ numbers_given c
-  unfolding in_form before numbers_given
-  numbers_before_lem (faulty r) e = absurd (true≢false (sym e))
-  numbers_before_lem (given flag qs) e = map-append (of_bits binary32) ps qs
+      pub fill_end : reading flag count ≡ reading_of (read_lines flag 256 lines)
+      unfolding reading_of
+      fill_end =
+          let s = w.six in
+          let c : count ≡ length w.patterns / 6 = omega arith in
+          ap (λ (k : ℕ). reading flag k) c ∙ ap reading_of (sym all)
 
-fault_form : (r : Refusal) {A : Type 0} → in_form (faulty r) ≡ true → A
-unfolding in_form
-fault_form r e = absurd (true≢false (sym e))
+      pub fill_written : length l₀ ≡ 1536 → l ≡ onto (numbers_given (read_lines flag 256 lines)) l₀
+      unfolding numbers_given
+      fill_written long =
+          let s = w.six in
+          let b = w.bound in
+          let few : length (floats w.patterns) ≤ length l₀ = rw (length-map w.patterns (of_bits binary32)) (omega arith) in
+          w.written ∙ sets_onto (floats w.patterns) l₀ few ∙ ap (λ (c : Content). onto (numbers_given c) l₀) (sym all)
 
--- text left of an answer starts with a line in form
-module _ (flag n : ℕ) (t : List ℕ) (h : 0 < length t) (e : in_form (read_lines flag n t) ≡ true) where
-  form_some : 0 < n
-  form_some = go n e
-    where
-      go : (n : ℕ) → in_form (read_lines flag n t) ≡ true → 0 < n
-      go zero e = fault_form TooMany (ap in_form (sym (lines_many flag 0 t h)) ∙ e)
-      go (suc n) e = omega arith
-
-  one : read_lines flag n t ≡ read_lines flag (suc (n - 1)) t
-  one = let s = form_some in ap (λ (k : ℕ). read_lines flag k t) (omega arith)
-
-  form_line : line_form 6 t ≡ true
-  form_line = go (line_form 6 t) refl
-    where
-      go : (b : Bool) → line_form 6 t ≡ b → line_form 6 t ≡ true
-      go true f = f
-      go false f = fault_form Unlisted (ap in_form (sym (one ∙ lines_broken flag (n - 1) t h f)) ∙ e)
-
-  form_lines : read_lines flag n t ≡ before (line_values 6 t) (read_lines flag (n - 1) (drop 67 t))
-  form_lines = one ∙ lines_next flag (n - 1) t h form_line
-
-  form_after : in_form (read_lines flag (n - 1) (drop 67 t)) ≡ true
-  form_after = sym (in_form_before (line_values 6 t) (read_lines flag (n - 1) (drop 67 t))) ∙ ap in_form (sym form_lines) ∙ e
-
-module _ (text : List ℕ) where
-  text_line : in_form (read_text text) ≡ true → line_form 1 text ≡ true
-  unfolding read_text
-  text_line e = go (line_form 1 text) e
-    where
-      go : (b : Bool) → in_form (cond b (read_lines (field_value (take 11 text)) 256 (drop 12 text)) (faulty Unlisted)) ≡ true → b ≡ true
-      go true e = refl
-      go false e = fault_form Unlisted e
-
-  text_lines : line_form 1 text ≡ true → read_text text ≡ read_lines (field_value (take 11 text)) 256 (drop 12 text)
-  unfolding read_text
-  text_lines e = rw e
-
--- ---- fill
--- The lines left at place at are in form, as many as may be left, and written to the list as it is they give the whole.
-pub record Filling (text : List ℕ) (l₀ l : List Float) (at place : ℕ) : Type 0 where
-  pub left : ℕ
-  pub room : place + 6 * left ≡ 1536
-  pub inside : at ≤ length text
-  pub form : in_form (read_lines (field_value (take 11 text)) left (drop at text)) ≡ true
-  pub last : sets l place (numbers_given (read_lines (field_value (take 11 text)) left (drop at text))) ≡ sets l₀ 0 (numbers_given (read_text text))
-  pub same : length l ≡ length l₀
-
-module _ (text : List ℕ) (l₀ : List Float) where
-  pub fill_start : in_form (read_text text) ≡ true → Filling text l₀ l₀ 12 0
-  fill_start e =
-      let f : line_form 1 text ≡ true = text_line text e in
-      record {
-        left = 256;
-        room = omega arith;
-        inside = form_long 1 text f;
-        form = ap in_form (sym (text_lines text f)) ∙ e;
-        last = ap (λ (c : Content). sets l₀ 0 (numbers_given c)) (sym (text_lines text f));
-        same = refl;
-      }
-
-  module _ (l : List Float) (at place : ℕ) (w : Filling text l₀ l at place) where
-    abbrev flag : ℕ
-    flag = field_value (take 11 text)
-
-    pub fill_same : length l ≡ length l₀
-    fill_same = w.same
-
-    pub fill_end : length text ≤ at → 1536 ≤ length l₀ → l ≡ onto (numbers_given (read_text text)) l₀
-    unfolding numbers_given
-    fill_end h g =
-        let z : length (drop at text) ≡ 0 = rw (length-drop at text) (omega arith) in
-        let few = numbers_few text in
-        let fit : length (numbers_given (read_text text)) ≤ length l₀ = omega arith in
-        ap (λ (c : Content). sets l place (numbers_given c)) (sym (lines_none flag w.left (drop at text) z))
-        ∙ w.last
-        ∙ sets_onto (numbers_given (read_text text)) l₀ fit
-
-    module _ (h : at < length text) where
-      more : 0 < length (drop at text)
-      more = rw (length-drop at text) (omega arith)
-
-      lines_left : 0 < w.left
-      lines_left = form_some flag w.left (drop at text) more w.form
-
-      pub fill_form : line_form 6 (drop at text) ≡ true
-      fill_form = form_line flag w.left (drop at text) more w.form
-
-      pub fill_room : 1536 ≤ length l₀ → place + 6 ≤ length l
-      fill_room g = let s = lines_left in let r = w.room in let e = w.same in omega arith
-
-      pub fill_inside : at + 67 ≤ length text
-      fill_inside = let f = form_long 6 (drop at text) fill_form in let d = length-drop at text in omega arith
-
-      pub fill_place : place + 6 < 18446744073709551616
-      fill_place = let s = lines_left in let r = w.room in omega arith
-
-      pub fill_next : (l' : List Float) → l' ≡ sets l place (map (of_bits binary32) (line_values 6 (drop at text))) → Filling text l₀ l' (at + 67) (place + 6)
-      fill_next l' l'_is =
-          let s = lines_left in
-          let r = w.room in
-          let vs : List Float = floats (line_values 6 (drop at text)) in
-          let rest : Content = read_lines flag (w.left - 1) (drop 67 (drop at text)) in
-          let f : in_form rest ≡ true = form_after flag w.left (drop at text) more w.form in
-          let six : length vs ≡ 6 = length-map (line_values 6 (drop at text)) (of_bits binary32) ∙ values_length 6 (drop at text) in
-          let place' : place + length vs ≡ place + 6 = ap (λ (k : ℕ). place + k) six in
-          let all : sets l place (vs ++ numbers_given rest) ≡ sets l₀ 0 (numbers_given (read_text text))
-          = ap (sets l place) (sym (ap numbers_given (form_lines flag w.left (drop at text) more w.form) ∙ numbers_before_lem (line_values 6 (drop at text)) rest f)) ∙ w.last in
-          record {
-            left = w.left - 1;
-            room = omega arith;
-            inside = fill_inside;
-            form = ap (λ (t : List ℕ). in_form (read_lines flag (w.left - 1) t)) (sym (drop-drop 67 at text)) ∙ f;
-            last =
-                ap (λ (t : List ℕ). sets l' (place + 6) (numbers_given (read_lines flag (w.left - 1) t))) (sym (drop-drop 67 at text))
-                ∙ ap (λ (k : ℕ). sets l' k (numbers_given rest)) (sym place')
-                ∙ ap (λ (m : List Float). sets m (place + length vs) (numbers_given rest)) l'_is
-                ∙ sym (sets_append vs (numbers_given rest) l place)
-                ∙ all;
-            same = ap length l'_is ∙ length-sets l place vs ∙ w.same;
-          }
-
-pub ruleset fills = (fill_start, fill_same, fill_end, fill_form, fill_room, fill_inside, fill_place, fill_next)
+pub ruleset fills = (fill_start, fill_many, fill_place, fill_bad, fill_end, fill_written)
 
 -- ---- read
-module _ (text : List ℕ) (x : Reading) (x_is : x ≡ reading_of (read_text text)) where
-  pub read_fault : (r : Refusal) → x ≡ Fault r → Fault r ≡ reading_of (read_text text)
-  read_fault r e = sym e ∙ x_is
+module _ (text : List ℕ) where
+  pub first_bad : None ≡ line_patterns 1 text → faulty Unlisted ≡ read_text text
+  unfolding read_text
+  first_bad e = rw (patterns_bad 1 text e)
 
-  pub read_sound : (flag count : ℕ) → x ≡ Sound flag count → Sound flag count ≡ reading_of (read_text text)
-  read_sound flag count e = sym e ∙ x_is
+  pub first_refused : None ≡ line_patterns 1 text → Err Unlisted ≡ reading_of (read_text text)
+  unfolding reading_of
+  first_refused e = ap reading_of (first_bad e)
 
-  pub read_untouched : (r : Refusal) (l : List Float) → x ≡ Fault r → l ≡ onto (numbers_given (read_text text)) l
-  read_untouched r l e = go (read_text text) (sym (sym e ∙ x_is))
-    where
-      go : (c : Content) → reading_of c ≡ Fault r → l ≡ onto (numbers_given c) l
-      go (faulty q) f = unfold numbers_given in refl
-      go (given flag ps) f =
-          let same : Sound flag (length ps / 6) ≡ Fault r = (unfold reading_of in f) in
-          let never : ◌≡◌ {A = ℕ} 0 1 = cc in
-          absurd (omega arith)
+  pub first_untouched : (l : List Float) → None ≡ line_patterns 1 text → l ≡ onto (numbers_given (read_text text)) l
+  unfolding numbers_given
+  first_untouched l e = ap (λ (c : Content). onto (numbers_given c) l) (first_bad e)
 
-  pub read_form : (flag count : ℕ) → x ≡ Sound flag count → in_form (read_text text) ≡ true
-  read_form flag count e = go (read_text text) (sym (sym e ∙ x_is))
-    where
-      go : (c : Content) → reading_of c ≡ Sound flag count → in_form c ≡ true
-      go (faulty q) f =
-          let same : Fault q ≡ Sound flag count = (unfold reading_of in f) in
-          let never : ◌≡◌ {A = ℕ} 0 1 = cc in
-          absurd (omega arith)
-      go (given g ps) f = unfold in_form in refl
+  module _ (ps : List ℕ) (e : Some ps ≡ line_patterns 1 text) where
+    first_form : (line_form 1 text ≡ true) × (ps ≡ line_values 1 text)
+    first_form = patterns_form 1 text ps e
 
-pub ruleset readings = (read_fault, read_sound, read_untouched, read_form)
+    pub first_inside : 12 ≤ length text
+    first_inside = form_long 1 text first_form.0
+
+    first_value : get_or ps 0 0 ≡ field_value (take 11 text)
+    unfolding line_values
+    first_value = ap (λ (l : List ℕ). get_or l 0 0) first_form.1
+
+    lines_are : take (length text - 12) (drop 12 text) ≡ drop 12 text
+    lines_are = take_all (length text - 12) (drop 12 text) (rw length-drop (le_refl _))
+
+    read_rest : read_lines (get_or ps 0 0) 256 (take (length text - 12) (drop 12 text)) ≡ read_text text
+    unfolding read_text
+    read_rest = (λ i. read_lines (first_value i) 256 (lines_are i)) ∙ rw first_form.0
+
+    pub rest_reading : (r : Result Reading Refusal) → r ≡ reading_of (read_lines (get_or ps 0 0) 256 (take (length text - 12) (drop 12 text))) → r ≡ reading_of (read_text text)
+    rest_reading r r_is = r_is ∙ ap reading_of read_rest
+
+    pub rest_written : (l l' : List Float) → l' ≡ onto (numbers_given (read_lines (get_or ps 0 0) 256 (take (length text - 12) (drop 12 text)))) l → l' ≡ onto (numbers_given (read_text text)) l
+    rest_written l l' l_is = l_is ∙ ap (λ (c : Content). onto (numbers_given c) l) read_rest
+
+    pub rest_untouched : (r : Refusal) (l : List Float) → Err r ≡ reading_of (read_lines (get_or ps 0 0) 256 (take (length text - 12) (drop 12 text))) → l ≡ onto (numbers_given (read_text text)) l
+    unfolding numbers_given
+    rest_untouched r l e = go (read_text text) (e ∙ ap reading_of read_rest)
+      where
+        go : (c : Content) → Err r ≡ reading_of c → l ≡ onto (numbers_given c) l
+        go (faulty q) f = refl
+        go (given flag ps) f = let same : Err r ≡ reading flag (length ps / 6) = (unfold reading_of in f) in cc
+
+pub ruleset readings = (first_refused, first_untouched, first_inside, rest_reading, rest_written, rest_untouched)

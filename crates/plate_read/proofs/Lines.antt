@@ -1,20 +1,20 @@
--- Laws of lines and of texts, and what each way out of the functions that check them owes, as the code meets it. Assumes nothing.
+-- Laws of lines, and what each way out of `line_values` owes, as the code meets it. Assumes nothing.
 use mathlib.Core.Path.{◌≡◌, refl, sym, ap, ◌∙◌}
-use mathlib.Core.Bool.{Bool, true, false, true≢false, and-eq-true_iff}
-use mathlib.Core.List.{List, [], ◌∷◌, ◌++◌}
-use Prim.Native.Nat.{ℕ, zero, suc, ◌+◌, ◌-◌, ◌*◌, ◌/◌, ◌≤◌, ◌<◌}
-use native.Mathlib.Nat.{add-zero, zero-add, add-sub_cancel_left}
+use mathlib.Core.Bool.{Bool, true, false, cond, true≢false, and-eq-true_iff}
+use mathlib.Core.List.{List, [], ◌∷◌, ◌++◌, append-nil}
+use Prim.Native.Nat.{ℕ, zero, suc, ◌+◌, ◌-◌, ◌*◌, ◌≤◌, ◌<◌}
+use native.Mathlib.Numerals.{add-one}
 use native.Mathlib.Omega.{arith}
 use lib.Dec.{eqb, ltb}
-use lib.ListN.{length, get_or, take, drop, length-append, length-drop, get_or-eq_default}
-use lib.Seq.{take_all, drop-drop, get_or-drop}
+use lib.ListN.{length, get_or, take, drop, set, length-drop, length-set}
+use lib.Seq.{take_all, take-suc-set}
 use borrow.Author.Tests.{eq-eqb, ne_eqb, ltb-true, ltb-false}
+use Rattle.std.proofs.Common.{append_assoc}
+use Rattle.std.specs.Prelude.{Some, None}
 use Rattle.command.specs.declared.Refusal.TheVariants.{TooMany, Unlisted}
-use Rattle.plate_read.specs.declared.Reading.{Reading}
-use Rattle.plate_read.specs.declared.Reading.TheVariants.{Fault, Sound}
-use Rattle.plate_read.specs.Text.{field_value, is_field, line_form, line_values, Content, faulty, given, before, read_lines, read_text, reading_of}
-use Rattle.plate_read.specs.Fields.{field_pattern}
-use Rattle.plate_read.proofs.Fields.{field_most, field_pattern_lem, pattern_none, field_good, field_bad}
+use Rattle.plate_read.specs.Text.{field_value, is_field, line_form, line_values, faulty, given, before, read_lines}
+use Rattle.plate_read.specs.Fields.{field_pattern, line_patterns}
+use Rattle.plate_read.proofs.Fields.{field_good, field_bad}
 
 -- ---- a line
 -- bytes that are too few for a field are none
@@ -68,71 +68,102 @@ unfolding line_values
 values_length zero t = refl
 values_length (suc n) t = ap suc (values_length n (drop 11 t))
 
--- ---- field_at
-module _ (text : List ℕ) (at : ℕ) where
-  pub at_short : length text - at < 11 → 4294967296 ≡ field_pattern (take 11 (drop at text))
-  at_short l =
-      let e : length (drop at text) < 11 = rw (length-drop at text) l in
-      sym (pattern_none (take 11 (drop at text)) (few_bytes (drop at text) e))
+-- ---- line_values
+-- a line in form gives its values, another none
+pub patterns_some : (n : ℕ) (t : List ℕ) → line_form n t ≡ true → line_patterns n t ≡ Some (line_values n t)
+unfolding line_patterns
+patterns_some n t e = rw e
 
-  pub at_field : (r : ℕ) → r ≡ field_pattern (take (at + 11 - at) (drop at text)) → r ≡ field_pattern (take 11 (drop at text))
-  at_field r r_is = r_is ∙ ap (λ (k : ℕ). field_pattern (take k (drop at text))) (add-sub_cancel_left at 11)
+pub patterns_none : (n : ℕ) (t : List ℕ) → line_form n t ≡ false → line_patterns n t ≡ None
+unfolding line_patterns
+patterns_none n t e = rw e
 
-pub ruleset places = (at_short, at_field)
+pub patterns_form : (n : ℕ) (t ps : List ℕ) → Some ps ≡ line_patterns n t → (line_form n t ≡ true) × (ps ≡ line_values n t)
+unfolding line_patterns
+patterns_form n t ps h = go (line_form n t) h
+  where
+    go : (a : Bool) → Some ps ≡ cond a (Some (line_values n t)) None → (a ≡ true) × (ps ≡ line_values n t)
+    go true h = (refl, cc)
+    go false h = cc
 
--- ---- line_form
--- the fields left at place i settle the answer
-unfoldable pub LineLeft : List ℕ → ℕ → ℕ → ℕ → ℕ → Type 0
-LineLeft text at n i left = line_form left (drop i text) ≡ line_form n (drop at text)
+pub patterns_bad : (n : ℕ) (t : List ℕ) → None ≡ line_patterns n t → line_form n t ≡ false
+unfolding line_patterns
+patterns_bad n t h = go (line_form n t) h
+  where
+    go : (a : Bool) → None ≡ cond a (Some (line_values n t)) None → a ≡ false
+    go true h = cc
+    go false h = refl
 
-pub line_start : (text : List ℕ) (at n : ℕ) → LineLeft text at n at n
-unfolding LineLeft
-line_start text at n = refl
+-- After k fields the rest settles whether the line is in form, and its values follow those before.
+pub record LineLeft (n : ℕ) (text values rest : List ℕ) (k : ℕ) : Type 0 where
+  pub long : length values ≡ n
+  pub form : line_form (n - k) rest ≡ line_form n text
+  pub given : line_values n text ≡ take k values ++ line_values (n - k) rest
 
-module _ (text : List ℕ) (at n i left : ℕ) (rest : LineLeft text at n i left) where
-  module _ (h : 0 < left) where
-    some : left ≡ suc (left - 1)
-    some = omega arith
+module _ (n : ℕ) (text : List ℕ) where
+  pub line_start : (values : List ℕ) → length values ≡ n → LineLeft n text values text 0
+  line_start values l = let z : n - 0 ≡ n = omega arith in record { long = l; form = rw z refl; given = rw z refl }
 
-    front : line_form (suc (left - 1)) (drop i text) ≡ line_form n (drop at text)
-    unfolding LineLeft
-    front = ap (λ (k : ℕ). line_form k (drop i text)) (sym some) ∙ rest
+  module _ (values rest : List ℕ) (k : ℕ) (w : LineLeft n text values rest k) where
+    module _ (h : k < n) where
+      one : n - k ≡ suc (n - (k + 1))
+      one = omega arith
 
-    module _ (r : ℕ) (r_is : r ≡ field_pattern (take 11 (drop i text))) where
-      pub line_broken : 4294967295 < r → false ≡ line_form n (drop at text)
-      line_broken l = sym (form_broken (left - 1) (drop i text) (field_bad (take 11 (drop i text)) (rw (← r_is) l))) ∙ front
+      form_here : line_form (suc (n - (k + 1))) rest ≡ line_form n text
+      form_here = ap (λ (m : ℕ). line_form m rest) (sym one) ∙ w.form
 
-      module _ (l : r ≤ 4294967295) where
-        good : is_field (take 11 (drop i text)) ≡ true
-        good = field_good (take 11 (drop i text)) (rw (← r_is) l)
+      broken : is_field (take 11 rest) ≡ false → None ≡ line_patterns n text
+      broken e = sym (patterns_none n text (sym form_here ∙ form_broken (n - (k + 1)) rest e))
 
-        pub line_inside : i + 11 ≤ length text
-        line_inside =
-            let f = field_inside (drop i text) good in
-            let d = length-drop i text in
-            omega arith
+      pub line_short : length rest < 11 → None ≡ line_patterns n text
+      line_short l = broken (few_bytes rest l)
 
-        pub line_next : LineLeft text at n (i + 11) (left - 1)
-        unfolding LineLeft
-        line_next = ap (line_form (left - 1)) (sym (drop-drop 11 i text)) ∙ sym (form_next (left - 1) (drop i text) good) ∙ front
+      module _ (field : List ℕ) (field_is : field ≡ take 11 rest) where
+        pub line_bad : None ≡ field_pattern field → None ≡ line_patterns n text
+        line_bad e = broken (ap is_field (sym field_is) ∙ field_bad field e)
 
-  module _ (h : left ≤ 0) where
-    newline : eqb (get_or text i 0) 10 ≡ line_form n (drop at text)
-    unfolding LineLeft
-    newline =
-        let e : left ≡ 0 = omega arith in
-        ap (λ (b : ℕ). eqb b 10) (ap (λ (k : ℕ). get_or text k 0) (sym (add-zero i)) ∙ sym (get_or-drop i text 0 0))
-        ∙ sym (form_newline (drop i text))
-        ∙ ap (λ (k : ℕ). line_form k (drop i text)) (sym e)
-        ∙ rest
+        pub line_next : (v : ℕ) (after : List ℕ) → Some v ≡ field_pattern field → after ≡ drop 11 rest → LineLeft n text (set values k v) after (k + 1)
+        unfolding line_values
+        line_next v after e after_is =
+            let g = field_good field v e in
+            let good : is_field (take 11 rest) ≡ true = ap is_field (sym field_is) ∙ g.0 in
+            let value : v ≡ field_value (take 11 rest) = g.1 ∙ ap field_value field_is in
+            let long = w.long in
+            let room : k < length values = omega arith in
+            record {
+              long = length-set values k v ∙ w.long;
+              form = ap (line_form (n - (k + 1))) after_is ∙ sym (form_next (n - (k + 1)) rest good) ∙ form_here;
+              given =
+                  w.given
+                  ∙ ap (λ (m : ℕ). take k values ++ line_values m rest) one
+                  ∙ (λ i. take k values ++ (sym value i ∷ line_values (n - (k + 1)) (sym after_is i)))
+                  ∙ sym (append_assoc (take k values) (v ∷ []) (line_values (n - (k + 1)) after))
+                  ∙ ap (λ (l : List ℕ). l ++ line_values (n - (k + 1)) after) (sym (rw add-one (take-suc-set values k v room)));
+            }
 
-    pub line_newline : i < length text → eqb (get_or text i 0) 10 ≡ line_form n (drop at text)
-    line_newline l = newline
+    module _ (h : n ≤ k) where
+      none : n - k ≡ 0
+      none = omega arith
 
-    pub line_ended : length text ≤ i → false ≡ line_form n (drop at text)
-    line_ended l = rw (get_or-eq_default text 0 {n = i} l) at newline
+      form_end : eqb (get_or rest 0 0) 10 ≡ line_form n text
+      form_end = sym (form_newline rest) ∙ ap (λ (m : ℕ). line_form m rest) (sym none) ∙ w.form
 
-pub ruleset lines = (line_start, line_broken, line_inside, line_next, line_newline, line_ended)
+      all_given : line_values n text ≡ values
+      unfolding line_values
+      all_given =
+          let l = w.long in
+          w.given
+          ∙ ap (λ (m : ℕ). take k values ++ line_values m rest) none
+          ∙ append-nil (take k values)
+          ∙ take_all k values (omega arith)
+
+      pub line_ended : get_or rest 0 0 ≡ 10 → Some values ≡ line_patterns n text
+      line_ended e = sym (patterns_some n text (sym form_end ∙ eq-eqb (get_or rest 0 0) 10 e) ∙ ap Some all_given)
+
+      pub line_other : (get_or rest 0 0 ≡ 10 → ⊥) → None ≡ line_patterns n text
+      line_other e = sym (patterns_none n text (sym form_end ∙ ne_eqb (get_or rest 0 0) 10 e))
+
+pub ruleset lines = (line_start, line_short, line_bad, line_next, line_ended, line_other)
 
 -- ---- the vertex lines
 module _ (flag n : ℕ) (t : List ℕ) where
@@ -159,117 +190,3 @@ module _ (flag n : ℕ) (t : List ℕ) where
     pub lines_next : line_form 6 t ≡ true → read_lines flag (suc n) t ≡ before (line_values 6 t) (read_lines flag n (drop 67 t))
     unfolding read_lines
     lines_next e = rw (ne_eqb (length t) 0 apart, e)
-
--- ---- check_lines
--- a reading with k vertices before it
-unfoldable pub counted : ℕ → Content → Reading
-counted k (faulty r) = Fault r
-counted k (given flag ps) = Sound flag (k + length ps / 6)
-
-counted_none : (c : Content) → counted 0 c ≡ reading_of c
-unfolding counted reading_of
-counted_none (faulty r) = refl
-counted_none (given flag ps) = ap (Sound flag) (zero-add (length ps / 6))
-
-counted_before : (k : ℕ) (ps : List ℕ) (c : Content) → length ps ≡ 6 → counted k (before ps c) ≡ counted (k + 1) c
-unfolding counted before
-counted_before k ps (faulty r) e = refl
-counted_before k ps (given flag qs) e =
-    let l = length-append ps qs in
-    let s : k + length (ps ++ qs) / 6 ≡ k + 1 + length qs / 6 = omega arith in
-    ap (Sound flag) s
-
--- the lines from place at on settle the answer, with count vertices before them
-unfoldable pub Checking : List ℕ → ℕ → ℕ → ℕ → ℕ → Type 0
-Checking text flag start at count = counted count (read_lines flag (256 - count) (drop at text)) ≡ reading_of (read_lines flag 256 (drop start text))
-
-module _ (text : List ℕ) (flag start : ℕ) where
-  pub check_start : Checking text flag start start 0
-  unfolding Checking
-  check_start = counted_none (read_lines flag 256 (drop start text))
-
-  module _ (at count : ℕ) (checking : Checking text flag start at count) where
-    module _ (h : at < length text) where
-      more : 0 < length (drop at text)
-      more = rw (length-drop at text) (omega arith)
-
-      pub check_many : 256 ≤ count → Fault TooMany ≡ reading_of (read_lines flag 256 (drop start text))
-      unfolding Checking counted
-      check_many l =
-          let e : 256 - count ≡ 0 = omega arith in
-          ap (counted count) (sym (ap (λ (k : ℕ). read_lines flag k (drop at text)) e ∙ lines_many flag 0 (drop at text) more)) ∙ checking
-
-      module _ (l : count < 256) (r : Bool) (r_is : r ≡ line_form 6 (drop at text)) where
-        one : 256 - count ≡ suc (256 - (count + 1))
-        one = omega arith
-
-        pub check_broken : r ≡ false → Fault Unlisted ≡ reading_of (read_lines flag 256 (drop start text))
-        unfolding Checking counted
-        check_broken e =
-            ap (counted count)
-            (sym (ap (λ (k : ℕ). read_lines flag k (drop at text)) one ∙ lines_broken flag (256 - (count + 1)) (drop at text) more (sym r_is ∙ e)))
-            ∙ checking
-
-        module _ (e : r ≡ true) where
-          pub check_inside : at + 67 ≤ length text
-          check_inside =
-              let f = form_long 6 (drop at text) (sym r_is ∙ e) in
-              let d = length-drop at text in
-              omega arith
-
-          pub check_next : Checking text flag start (at + 67) (count + 1)
-          unfolding Checking
-          check_next =
-              ap (λ (t : List ℕ). counted (count + 1) (read_lines flag (256 - (count + 1)) t)) (sym (drop-drop 67 at text))
-              ∙ sym (counted_before count (line_values 6 (drop at text)) (read_lines flag (256 - (count + 1)) (drop 67 (drop at text))) (values_length 6 (drop at text)))
-              ∙ ap (counted count)
-              (sym (ap (λ (k : ℕ). read_lines flag k (drop at text)) one ∙ lines_next flag (256 - (count + 1)) (drop at text) more (sym r_is ∙ e)))
-              ∙ checking
-
-    pub check_end : length text ≤ at → Sound flag count ≡ reading_of (read_lines flag 256 (drop start text))
-    unfolding Checking counted
-    check_end h =
-        let e : length (drop at text) ≡ 0 = rw (length-drop at text) (omega arith) in
-        let z : count ≡ count + length {A = ℕ} [] / 6 = omega arith in
-        ap (Sound flag) z ∙ ap (counted count) (sym (lines_none flag (256 - count) (drop at text) e)) ∙ checking
-
-pub ruleset checks = (check_start, check_many, check_broken, check_inside, check_next, check_end)
-
--- ---- pattern_at
-module _ (text : List ℕ) (at : ℕ) (e : is_field (take 11 (drop at text)) ≡ true) where
-  pub pattern_inside : at ≤ length text
-  pattern_inside =
-      let f = field_inside (drop at text) e in
-      let d = length-drop at text in
-      omega arith
-
-  module _ (r : ℕ) (r_is : r ≡ field_pattern (take 11 (drop at text))) where
-    pub pattern_is : r ≡ field_value (take 11 (drop at text))
-    pattern_is = r_is ∙ field_pattern_lem (take 11 (drop at text)) e
-
-    pub pattern_fits : r < 4294967296
-    pattern_fits = let m = field_most (take 11 (drop at text)) e in let p = pattern_is in omega arith
-
-pub ruleset patterns = (pattern_inside, pattern_is, pattern_fits)
-
--- ---- check
-module _ (text : List ℕ) (r : Bool) (r_is : r ≡ line_form 1 (drop 0 text)) where
-  pub text_broken : r ≡ false → Fault Unlisted ≡ reading_of (read_text text)
-  unfolding read_text reading_of
-  text_broken e = let f : line_form 1 text ≡ false = sym r_is ∙ e in rw f
-
-  module _ (e : r ≡ true) where
-    flag_line : line_form 1 text ≡ true
-    flag_line = sym r_is ∙ e
-
-    pub flag_field : is_field (take 11 (drop 0 text)) ≡ true
-    flag_field = form_field 0 text flag_line
-
-    pub flag_inside : 12 ≤ length text
-    flag_inside = form_long 1 text flag_line
-
-    pub text_checked : (p : ℕ) (x : Reading) → p ≡ field_value (take 11 (drop 0 text)) → x ≡ reading_of (read_lines p 256 (drop 12 text)) → x ≡ reading_of (read_text text)
-    unfolding read_text
-    text_checked p x p_is x_is = x_is ∙ ap (λ (k : ℕ). reading_of (read_lines k 256 (drop 12 text))) p_is ∙ rw flag_line
-
-pub ruleset texts = (text_broken, flag_field, flag_inside, text_checked)

@@ -9,8 +9,10 @@ use lib.Dec.{eqb, eqb-suc-zero}
 use lib.Ieee.{of_bits, binary32}
 use lib.ListN.{length, take, drop, length-append, length-map}
 use lib.Seq.{take-take, take-nil}
+use Rattle.std.specs.Prelude.{Result, Ok, Err}
 use Rattle.command.specs.declared.Refusal.TheVariants.{TooMany, Unlisted}
-use Rattle.plate_read.specs.declared.Reading.TheVariants.{Fault, Sound}
+use Rattle.command.specs.declared.Refusal.{Refusal}
+use Rattle.plate_read.specs.declared.Reading.{Reading}
 use Rattle.plate_read.specs.Text.{field_value, line_form, line_values, Content, faulty, given, before, read_lines, read_text, reading_of, numbers_given}
 use Rattle.plate_read.proofs.Fields.{field_most}
 use Rattle.plate_read.proofs.Lines.{form_field, values_length}
@@ -75,19 +77,18 @@ unfolding numbers_given
 numbers_length flag ps = length-map ps (of_bits binary32)
 
 -- the same of a reading and of the numbers
-pub reading_counts : (t : List ℕ) (flag count : ℕ) → reading_of (read_text t) ≡ Sound flag count
-    → (length (numbers_given (read_text t)) ≡ 6 * count) × (count ≤ 256) × (flag ≤ 4294967295)
-reading_counts t flag count e = go (read_text t) (text_sized t) e
+pub reading_counts : (t : List ℕ) (r : Reading) → reading_of (read_text t) ≡ Ok r
+    → (length (numbers_given (read_text t)) ≡ 6 * r.count) × (r.count ≤ 256) × (r.closed ≤ 4294967295)
+reading_counts t r e = go (read_text t) (text_sized t) e
   where
-    go : (c : Content) → Sized c → reading_of c ≡ Sound flag count → (length (numbers_given c) ≡ 6 * count) × (count ≤ 256) × (flag ≤ 4294967295)
-    go (faulty r) s e =
-        let same : Fault r ≡ Sound flag count = (unfold reading_of in e) in
-        let never : ◌≡◌ {A = ℕ} 0 1 = cc in
-        absurd (omega arith)
+    go : (c : Content) → Sized c → reading_of c ≡ Ok r → (length (numbers_given c) ≡ 6 * r.count) × (r.count ≤ 256) × (r.closed ≤ 4294967295)
+    go (faulty q) s e = let same : ◌≡◌ {A = Result Reading Refusal} (Err q) (Ok r) = (unfold reading_of in e) in cc
     go (given f ps) s e =
-        let same : Sound f (length ps / 6) ≡ Sound flag count = (unfold reading_of in e) in
-        let flag_is : f ≡ flag = cc in
-        let count_is : length ps / 6 ≡ count = cc in
+        let here : Reading = record { closed = f; count = length ps / 6 } in
+        let same : ◌≡◌ {A = Result Reading Refusal} (Ok here) (Ok r) = (unfold reading_of in e) in
+        let r_is : here ≡ r = cc in
+        let flag_is : f ≡ r.closed = ap (λ (x : Reading). x.closed) r_is in
+        let count_is : length ps / 6 ≡ r.count = ap (λ (x : Reading). x.count) r_is in
         let few = s.0 in
         let sixes = s.1 in
         let small = s.2 in
@@ -121,14 +122,14 @@ module _ (m : ℕ) where
   field_prefix : (k : ℕ) (t : List ℕ) → take 11 (take (11 + k) t) ≡ take 11 t
   field_prefix k t = take-take 11 (11 + k) t (omega arith)
 
-  form_prefix : (n : ℕ) (t : List ℕ) → line_form n (take (11 * n + suc m) t) ≡ line_form n t
+  pub form_prefix : (n : ℕ) (t : List ℕ) → line_form n (take (11 * n + suc m) t) ≡ line_form n t
   unfolding line_form
   form_prefix zero t = let e : 11 * 0 + suc m ≡ suc m = omega arith in ap (λ (k : ℕ). line_form 0 (take k t)) e ∙ newline_prefix m t
   form_prefix (suc n) t =
       let e : 11 * suc n + suc m ≡ 11 + (11 * n + suc m) = omega arith in
       rw (e, field_prefix (11 * n + suc m) t, drop_take 11 (11 * n + suc m) t, form_prefix n (drop 11 t))
 
-  values_prefix : (n : ℕ) (t : List ℕ) → line_values n (take (11 * n + suc m) t) ≡ line_values n t
+  pub values_prefix : (n : ℕ) (t : List ℕ) → line_values n (take (11 * n + suc m) t) ≡ line_values n t
   unfolding line_values
   values_prefix zero t = refl
   values_prefix (suc n) t =

@@ -1,11 +1,10 @@
 -- The text that the program `plate` reads: the closed flag in a line of one field, then a line of six fields for each vertex. Definitions only.
-use Rattle.std.specs.Prelude.{ℕ, zero, suc, ◌+◌, ◌-◌, ◌*◌, ◌/◌, Bool, true, false, cond, ◌&&◌, List, [], ◌∷◌, ◌++◌, map, eqb, leb, Float, length, get_or, take, drop}
+use Rattle.std.specs.Prelude.{ℕ, zero, suc, ◌+◌, ◌-◌, ◌*◌, ◌/◌, Bool, true, false, cond, ◌&&◌, List, [], ◌∷◌, ◌++◌, map, eqb, leb, Float, length, get_or, take, drop, Result, Ok, Err}
 use Rattle.std.specs.Float.Ieee.{of_bits}
 use Rattle.std.specs.Float.{binary32}
 use Rattle.command.specs.declared.Refusal.{Refusal}
 use Rattle.command.specs.declared.Refusal.TheVariants.{TooMany, Unlisted}
 use Rattle.plate_read.specs.declared.Reading.{Reading}
-use Rattle.plate_read.specs.declared.Reading.TheVariants.{Fault, Sound}
 
 -- ---- a field: blanks, then digits, at most 4,294,967,295, in 11 columns
 
@@ -89,9 +88,9 @@ read_text text = cond (line_form 1 text) (read_lines (field_value (take 11 text)
 -- ---- what the call hands back and writes
 
 -- the refusal, or the flag and how many vertices
-unfoldable pub reading_of : Content → Reading
-reading_of (faulty r) = Fault r
-reading_of (given flag ps) = Sound flag (length ps / 6)
+unfoldable pub reading_of : Content → Result Reading Refusal
+reading_of (faulty r) = Err r
+reading_of (given flag ps) = Ok (record { closed = flag; count = length ps / 6 })
 
 -- the numbers with these patterns, every NaN's pattern being `nan`; none for a refusal
 unfoldable pub numbers_given : Content → List Float

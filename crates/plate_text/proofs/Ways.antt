@@ -1,6 +1,7 @@
 -- What each way out of a function of this crate owes, as the code meets it: a premise for each test and for each call's result.
 -- Assumes nothing.
-use Rattle.std.specs.Prelude.{Ok, Err}
+use Rattle.command.specs.declared.Size.{Size}
+use Rattle.std.specs.Prelude.{Result, Ok, Err}
 use mathlib.Core.Path.{◌≡◌, refl, sym, ap, ap₂, ◌∙◌, subst}
 use mathlib.Core.Bool.{true}
 use mathlib.Core.List.{List, [], ◌∷◌, map}
@@ -16,7 +17,7 @@ use Rattle.command.specs.declared.Refusal.{Refusal}
 use Rattle.command.specs.Commands.{codes_of, numbers_of, command_limit}
 use Rattle.command.specs.Refusals.{refusal_number}
 use Rattle.command.specs.Outcomes.{Outcome, number_of, mapped, list_of}
-use Rattle.command.specs.Buffers.{onto, in_buffers, fitted, Filled, FilledBoth}
+use Rattle.command.specs.Buffers.{onto, in_buffers, fitted, Filled, FilledBoth, codes_told, numbers_told}
 use Rattle.command.proofs.Outcomes.{refused_accepted, number_some, answered}
 use Rattle.command.proofs.Lists.{codes_length}
 use Rattle.path.specs.Path.{path_commands}
@@ -30,7 +31,6 @@ use Rattle.judge.proofs.Lists.{list_judged, read_written}
 use Rattle.measure.specs.Length.{path_length}
 use Rattle.length.specs.Lists.{measure_list}
 use Rattle.plate_read.specs.declared.Reading.{Reading}
-use Rattle.plate_read.specs.declared.Reading.TheVariants.{Fault, Sound as InForm}
 use Rattle.plate_read.specs.Text.{Content, faulty, given, read_text, reading_of, numbers_given}
 use Rattle.plate_read.proofs.Texts.{reading_counts}
 use Rattle.plate_print.specs.Lines.{refusal_text, list_text, line}
@@ -222,21 +222,22 @@ module _ (closed : ℕ) (v : List Float) (count : ℕ) (codes codes' : List ℕ)
 pub ruleset drawing = (drawn_refusal_count, drawn_refusal_put, codes_inside, numbers_inside, length-take-le, codes_most, room, drawn_count, drawn_put)
 
 -- ---- plate
-fault_text : (c : Content) (r : Refusal) → reading_of c ≡ Fault r → refusal_text r ≡ content_text c
+fault_text : (c : Content) (r : Refusal) → reading_of c ≡ Err r → refusal_text r ≡ content_text c
 unfolding reading_of content_text
 fault_text (faulty r') r e = let same : r' ≡ r = cc in ap refusal_text (sym same)
-fault_text (given flag ps) r e = let never : ◌≡◌ {A = ℕ} 0 1 = cc in absurd (omega arith)
+fault_text (given flag ps) r e = cc
 
-sound_text : (c : Content) (closed count : ℕ) → reading_of c ≡ InForm closed count → drawn_text (draw_path closed (numbers_given c) count) ≡ content_text c
+sound_text : (c : Content) (r : Reading) → reading_of c ≡ Ok r → drawn_text (draw_path r.closed (numbers_given c) r.count) ≡ content_text c
 unfolding reading_of content_text numbers_given
-sound_text (faulty r) closed count e = let never : ◌≡◌ {A = ℕ} 0 1 = cc in absurd (omega arith)
-sound_text (given flag ps) closed count e =
-    let flag_is : flag ≡ closed = cc in
-    let count_is : length ps / 6 ≡ count = cc in
-    sym (λ i. drawn_text (draw_path (flag_is i) (map (of_bits binary32) ps) (count_is i)))
+sound_text (faulty q) r e = cc
+sound_text (given flag ps) r e =
+    let here : Reading = record { closed = flag; count = length ps / 6 } in
+    let same : ◌≡◌ {A = Result Reading Refusal} (Ok here) (Ok r) = e in
+    let r_is : here ≡ r = cc in
+    sym (λ i. drawn_text (draw_path (r_is i).closed (map (of_bits binary32) ps) (r_is i).count))
 
-module _ (text : List ℕ) (reading : Reading) (reading_is : reading ≡ reading_of (read_text text)) where
-  module _ (out out' : List ℕ) (n : ℕ) (r : Refusal) (e : reading ≡ Fault r) where
+module _ (text : List ℕ) (reading : Result Reading Refusal) (reading_is : reading ≡ reading_of (read_text text)) where
+  module _ (out out' : List ℕ) (n : ℕ) (r : Refusal) (e : reading ≡ Err r) where
     refusal_plate : refusal_text r ≡ plate_text text
     unfolding plate_text
     refusal_plate = fault_text (read_text text) r (sym reading_is ∙ e)
@@ -247,36 +248,36 @@ module _ (text : List ℕ) (reading : Reading) (reading_is : reading ≡ reading
     pub plate_refusal_put : out' ≡ onto (refusal_text r) out → out' ≡ onto (plate_text text) out
     plate_refusal_put = put (refusal_text r) (plate_text text) refusal_plate out out'
 
-  module _ (closed count : ℕ) (e : reading ≡ InForm closed count) where
-    sizes : (length (numbers_given (read_text text)) ≡ 6 * count) × (count ≤ 256) × (closed ≤ 4294967295)
-    sizes = reading_counts text closed count (sym reading_is ∙ e)
+  module _ (r : Reading) (e : reading ≡ Ok r) where
+    sizes : (length (numbers_given (read_text text)) ≡ 6 * r.count) × (r.count ≤ 256) × (r.closed ≤ 4294967295)
+    sizes = reading_counts text r (sym reading_is ∙ e)
 
-    pub count_few : count ≤ 256
+    pub count_few : r.count ≤ 256
     count_few = sizes.1
 
-    pub vertices_fit : 6 * count < 18446744073709551616
+    pub vertices_fit : 6 * r.count < 18446744073709551616
     vertices_fit = let h = count_few in omega arith
 
     module _ (vertices vertices' : List Float) (filled : vertices' ≡ onto (numbers_given (read_text text)) vertices) where
-      pub vertices_inside : 6 * count ≤ length vertices'
+      pub vertices_inside : 6 * r.count ≤ length vertices'
       vertices_inside = rw (filled, length-append (numbers_given (read_text text)) (drop (length (numbers_given (read_text text))) vertices), sizes.0) (omega arith)
 
-      vertices_are : take (6 * count) vertices' ≡ numbers_given (read_text text)
+      vertices_are : take (6 * r.count) vertices' ≡ numbers_given (read_text text)
       vertices_are =
           (λ i. take (sym sizes.0 i) (filled i))
           ∙ take-append_seam (numbers_given (read_text text)) (drop (length (numbers_given (read_text text))) vertices)
 
-      drawn_plate : drawn_text (draw_path closed (take (6 * count) vertices') count) ≡ plate_text text
+      drawn_plate : drawn_text (draw_path r.closed (take (6 * r.count) vertices') r.count) ≡ plate_text text
       unfolding plate_text
       drawn_plate =
-          ap (λ (w : List Float). drawn_text (draw_path closed w count)) vertices_are
-          ∙ sound_text (read_text text) closed count (sym reading_is ∙ e)
+          ap (λ (w : List Float). drawn_text (draw_path r.closed w r.count)) vertices_are
+          ∙ sound_text (read_text text) r (sym reading_is ∙ e)
 
-      pub plate_count : (n : ℕ) → n ≡ length (drawn_text (draw_path closed (take (6 * count) vertices') count)) → n ≡ length (plate_text text)
-      plate_count = counted (drawn_text (draw_path closed (take (6 * count) vertices') count)) (plate_text text) drawn_plate
+      pub plate_count : (n : ℕ) → n ≡ length (drawn_text (draw_path r.closed (take (6 * r.count) vertices') r.count)) → n ≡ length (plate_text text)
+      plate_count = counted (drawn_text (draw_path r.closed (take (6 * r.count) vertices') r.count)) (plate_text text) drawn_plate
 
-      pub plate_put : (out out' : List ℕ) → out' ≡ onto (drawn_text (draw_path closed (take (6 * count) vertices') count)) out → out' ≡ onto (plate_text text) out
-      plate_put = put (drawn_text (draw_path closed (take (6 * count) vertices') count)) (plate_text text) drawn_plate
+      pub plate_put : (out out' : List ℕ) → out' ≡ onto (drawn_text (draw_path r.closed (take (6 * r.count) vertices') r.count)) out → out' ≡ onto (plate_text text) out
+      plate_put = put (drawn_text (draw_path r.closed (take (6 * r.count) vertices') r.count)) (plate_text text) drawn_plate
 
 pub ruleset plates = (plate_refusal_count, plate_refusal_put, count_few, vertices_fit, vertices_inside, length-take-le, plate_count, plate_put)
 

@@ -7,7 +7,6 @@ ghost use Rattle.draw.specs.Paths.{draw_path};
 ghost use Rattle.length.specs.Lists.{measure_list};
 ghost use Rattle.plate_text.specs.Plate.{drawn_text, plate_text, measured_text};
 
-use plate_read::Reading;
 
 // Prints a command list and its length, or why it has none.
 fn print_measured(codes: &[u8], numbers: &[f32], out: &mut [u8]) -> usize
@@ -42,7 +41,12 @@ pub fn plate(text: &[u8], out: &mut [u8; 17816]) -> usize
 {
     let mut vertices = [0.0; 1536];
     match plate_read::read(text, &mut vertices) {
-        Reading::Fault(refusal) => plate_print::print_refusal(refusal, out),
-        Reading::Sound(closed, count) => print_drawn(closed, &vertices[..6 * count], count, out),
+        Err(refusal) => plate_print::print_refusal(refusal, out),
+        Ok(reading) => print_drawn(
+            reading.closed,
+            &vertices[..6 * reading.count],
+            reading.count,
+            out,
+        ),
     }
 }

@@ -1,5 +1,5 @@
 // The remainder of an angle by a whole turn, 360 degrees, worked out in whole numbers.
-#![tactic(auto)]
+#![tactic(auto, using(crate::proofs::Ways::ways))]
 
 ghost use Rattle.std.specs.Prelude.{◌≡◌, ◌*◌, ◌%◌, ◌^◌, ◌<◌};
 ghost use Rattle.std.specs.Float.Ieee as Ieee;
@@ -39,33 +39,29 @@ fn power(s: u64) -> u64
 fn rem_parts(x: f32) -> f32
     ensures { result ≡ Ieee.rem binary32 x turn32 }
 {
-    let p = float::split(x);
-    let q = p.digits;
-    let k = p.drops;
-    let negative = p.negative;
-    if !p.finite {
+    let Some(p) = float::split(x) else {
         return x - x;
+    };
+    if p.drops >= 149 {
+        whole::from_whole(p.negative, whole_rem(p.digits, p.drops - 149))
+    } else if p.drops < 134 {
+        x
+    } else {
+        let places = 149 - p.drops;
+        whole::from_whole(p.negative, part_rem(p.digits, places))
+            / whole::from_whole(false, power(places))
     }
-    if k >= 149 {
-        return whole::from_whole(negative, whole_rem(q, k - 149));
-    }
-    if k < 134 {
-        return x;
-    }
-    whole::from_whole(negative, part_rem(q, 149 - k)) / whole::from_whole(false, power(149 - k))
 }
 
 // x % 360.0, with the sign of x: exact. Within a turn it is x.
 fn rem_360(x: f32) -> f32
     ensures { result ≡ Ieee.rem binary32 x turn32 }
 {
-    if x < 360.0 {
-        if x > -360.0 {
-            return x;
-        }
-        return rem_parts(x);
+    if x < 360.0 && x > -360.0 {
+        x
+    } else {
+        rem_parts(x)
     }
-    rem_parts(x)
 }
 
 // Rust's x.rem_euclid(360.0): not negative, and 360 itself where a tiny negative remainder is

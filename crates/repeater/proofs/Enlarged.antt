@@ -31,7 +31,7 @@ use Rattle.ieee.proofs.Twins.{zero_twin, twin_weaken, twin_neg, twin_add, twin_a
 use Rattle.angle.specs.Sixteenths.{turn_of}
 use Rattle.angle.proofs.Reduced.{zero_turn}
 use Rattle.matrix.specs.declared.Matrix.{Matrix}
-use Rattle.matrix.proofs.Ways.{rotate_none}
+use Rattle.matrix.proofs.Rotation.{rotate_none}
 use Rattle.repeater.proofs.Ways.{step_matrix_is}
 use Rattle.repeater.specs.declared.RepeaterStyle.{RepeaterStyle}
 use Rattle.matrix.specs.Matrix.{identity, concat, pre_translate, pre_scale}

@@ -8,7 +8,6 @@ use Rattle.matrix.specs.declared.Matrix.{Matrix}
 use Rattle.repeater.specs.Repeater.{steps}
 use Rattle.repeater.specs.Upright.{is_upright, upright_steps}
 use Rattle.repeater.proofs.Upright.{upright, kept}
-use Rattle.repeater.proofs.Ways.{not_upright_b, not_upright_c, not_upright_a, upright_d, upright_concat_way, upright_none, upright_next, upright_end}
 
 pub upright_steps_lem : (n : ℕ) (step : Matrix) → is_upright step ≡ true → finite (upright_steps n step).a ≡ true → finite (upright_steps n step).d ≡ true → upright_steps n step ≡ steps n step
 upright_steps_lem n step h A D = (kept n step (upright step h) A D).is
@@ -20,5 +19,3 @@ module _ (step : Matrix) where
       ∙ upright_steps_lem n step (sym t_is ∙ t_true)
       (ap (λ (k : Matrix). finite k.a) (sym m_is) ∙ sym p_is ∙ p_true)
       (ap (λ (k : Matrix). finite k.d) (sym m_is) ∙ sym q_is ∙ q_true)
-
-pub ruleset quickly = (not_upright_b, not_upright_c, not_upright_a, upright_d, upright_concat_way, upright_none, upright_next, upright_end, upright_all)

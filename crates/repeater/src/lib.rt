@@ -11,10 +11,8 @@ ghost use Rattle.repeater.specs.Upright as upright;
 use matrix::Matrix;
 use point::Point;
 
-// f32::EPSILON, 2^-23.
-const EPSILON: f32 = 0.00000011920929;
-
 // A repeater, sampled. Scales are in per cent, the rotation is in degrees.
+// The mode is the number that C hands over: any number is let pass where only matrices are asked for.
 #[derive(Clone, Copy)]
 pub struct RepeaterStyle {
     pub copies: f32,
@@ -28,95 +26,94 @@ pub struct RepeaterStyle {
     pub end_opacity: f32,
 }
 
-// A part of a step's scale, or of the inverse step's.
-fn step_scale(scale: f32, percent: f32, inverse: bool) -> f32
-    ensures { result ≡ spec.step_scale scale percent inverse }
-{
-    let s = fused::mul_add(scale / 100.0 - 1.0, percent, 1.0);
-    if inverse {
-        1.0 / float::max(s, 0.0001)
-    } else {
-        s
+// A part of a step, or of the inverse step.
+#[derive(Clone, Copy)]
+struct StepPart {
+    percent: f32,
+    inverse: bool,
+}
+
+impl StepPart {
+    // The part of a scale.
+    #[tactic(auto, unfolding(crate::specs::Repeater::step_scale))]
+    fn of_scale(self, scale: f32) -> f32
+        ensures { result ≡ spec.step_scale scale self.percent self.inverse }
+    {
+        let s = fused::mul_add(scale / 100.0 - 1.0, self.percent, 1.0);
+        if self.inverse {
+            1.0 / float::max(s, 0.0001)
+        } else {
+            s
+        }
+    }
+
+    fn direction(self) -> f32
+        ensures { result ≡ spec.direction self.inverse }
+    {
+        if self.inverse { -1.0 } else { 1.0 }
+    }
+
+    // The part of a shift along an axis, or of an angle.
+    #[tactic(auto, unfolding(crate::specs::Repeater::step_part))]
+    fn of(self, amount: f32) -> f32
+        ensures { result ≡ spec.step_part amount self.percent self.inverse }
+    {
+        amount * self.direction() * self.percent
     }
 }
 
-fn direction(inverse: bool) -> f32
-    ensures { result ≡ spec.direction inverse }
-{
-    if inverse { -1.0 } else { 1.0 }
-}
-
-// A part of a step's shift, or of its angle.
-fn step_part(amount: f32, percent: f32, inverse: bool) -> f32
-    ensures { result ≡ spec.step_part amount percent inverse }
-{
-    amount * direction(inverse) * percent
-}
-
 // A shift, then a rotation and a scaling around an anchor.
-fn step_matrix(
-    x: f32,
-    y: f32,
-    anchor_x: f32,
-    anchor_y: f32,
-    degrees: f32,
-    scale_x: f32,
-    scale_y: f32,
-) -> Matrix
+#[tactic(auto, unfolding(crate::specs::Repeater::step_matrix))]
+fn step_matrix(shift: Point, anchor: Point, degrees: f32, scale: Point) -> Matrix
     requires { within number_limit degrees ≡ true }
-    ensures { result ≡ spec.step_matrix x y anchor_x anchor_y degrees scale_x scale_y }
+    ensures { result ≡ spec.step_matrix shift.x shift.y anchor.x anchor.y degrees scale.x scale.y }
 {
-    let moved = matrix::pre_translate(matrix::identity(), x, y);
-    let anchored = matrix::pre_translate(moved, anchor_x, anchor_y);
-    let turned = matrix::pre_rotate(anchored, degrees);
-    let scaled = matrix::pre_scale(turned, scale_x, scale_y);
-    matrix::pre_translate(scaled, -anchor_x, -anchor_y)
+    let back = Point {
+        x: -anchor.x,
+        y: -anchor.y,
+    };
+    Matrix::identity()
+        .pre_translate(shift)
+        .pre_translate(anchor)
+        .pre_rotate(degrees)
+        .pre_scale(scale)
+        .pre_translate(back)
 }
 
 // A part of a step, or of the inverse step.
-fn step_transform(repeater: RepeaterStyle, percent: f32, inverse: bool) -> Matrix
-    requires { within number_limit (spec.step_part repeater.rotation percent inverse) ≡ true }
-    ensures { result ≡ spec.step_transform repeater percent inverse }
+#[tactic(auto, unfolding(crate::specs::Repeater::step_transform))]
+fn step_transform(repeater: RepeaterStyle, part: StepPart) -> Matrix
+    requires { within number_limit (spec.step_part repeater.rotation part.percent part.inverse) ≡ true }
+    ensures { result ≡ spec.step_transform repeater part.percent part.inverse }
 {
-    step_matrix(
-        step_part(repeater.position.x, percent, inverse),
-        step_part(repeater.position.y, percent, inverse),
-        repeater.anchor.x,
-        repeater.anchor.y,
-        step_part(repeater.rotation, percent, inverse),
-        step_scale(repeater.scale.x, percent, inverse),
-        step_scale(repeater.scale.y, percent, inverse),
-    )
+    let shift = Point {
+        x: part.of(repeater.position.x),
+        y: part.of(repeater.position.y),
+    };
+    let scale = Point {
+        x: part.of_scale(repeater.scale.x),
+        y: part.of_scale(repeater.scale.y),
+    };
+    step_matrix(shift, repeater.anchor, part.of(repeater.rotation), scale)
 }
 
 // So many steps, one after another.
 fn plain_steps(n: u64, step: Matrix) -> Matrix
     ensures { result ≡ spec.steps n step }
 {
-    let mut transform = matrix::identity();
-    let mut i: u64 = 0;
-    while i < n {
-        transform = matrix::concat(transform, step);
-        i += 1;
-    }
-    transform
+    (0..n).fold(Matrix::identity(), |transform, _| transform.concat(step))
 }
 
 // Whether a matrix neither turns nor mirrors: b and c are zeros, and a and d are above zero.
+#[tactic(auto, unfolding(crate::specs::Upright::is_upright))]
 fn is_upright(m: Matrix) -> bool
     ensures { result ≡ upright.is_upright m }
 {
-    if m.b == 0.0 {
-        if m.c == 0.0 {
-            if m.a > 0.0 {
-                return m.d > 0.0;
-            }
-        }
-    }
-    false
+    m.b == 0.0 && m.c == 0.0 && m.a > 0.0 && m.d > 0.0
 }
 
 // The product of two matrices that neither turn nor mirror: n acts first.
+#[tactic(auto, unfolding(crate::specs::Upright::upright_concat))]
 fn upright_concat(m: Matrix, n: Matrix) -> Matrix
     ensures { result ≡ upright.upright_concat m n }
 {
@@ -134,25 +131,21 @@ fn upright_concat(m: Matrix, n: Matrix) -> Matrix
 fn upright_steps(n: u64, step: Matrix) -> Matrix
     ensures { result ≡ upright.upright_steps n step }
 {
-    let mut transform = matrix::identity();
-    let mut i: u64 = 0;
-    while i < n {
-        transform = upright_concat(transform, step);
-        i += 1;
-    }
-    transform
+    (0..n).fold(
+        Matrix::identity(),
+        |transform, _| upright_concat(transform, step),
+    )
 }
 
 // So many steps, by the quick way where it is right.
+#[tactic(auto, using(crate::proofs::Quickly::upright_all))]
 fn steps(n: u64, step: Matrix) -> Matrix
     ensures { result ≡ spec.steps n step }
 {
     if is_upright(step) {
         let quick = upright_steps(n, step);
-        if float::is_finite(quick.a) {
-            if float::is_finite(quick.d) {
-                return quick;
-            }
+        if float::is_finite(quick.a) && float::is_finite(quick.d) {
+            return quick;
         }
     }
     plain_steps(n, step)
@@ -163,16 +156,23 @@ fn iteration_transform(repeater: RepeaterStyle, iteration: f32) -> Matrix
     requires { (within count_limit iteration ≡ true) × (within number_limit repeater.rotation ≡ true) }
     ensures { result ≡ spec.iteration_transform repeater iteration }
 {
-    if float::is_within(iteration, EPSILON) {
-        return matrix::identity();
+    if float::is_within(iteration, f32::EPSILON) {
+        return Matrix::identity();
     }
     let inverse = iteration < 0.0;
     let magnitude = float::abs(iteration);
     let whole = count::count_down(magnitude);
-    let fraction = magnitude - whole::from_whole(false, whole);
-    let transform = steps(whole, step_transform(repeater, 1.0, inverse));
-    if fraction > EPSILON {
-        matrix::concat(transform, step_transform(repeater, fraction, inverse))
+    let percent = magnitude - whole::from_whole(false, whole);
+    let step = step_transform(
+        repeater,
+        StepPart {
+            percent: 1.0,
+            inverse,
+        },
+    );
+    let transform = steps(whole, step);
+    if percent > f32::EPSILON {
+        transform.concat(step_transform(repeater, StepPart { percent, inverse }))
     } else {
         transform
     }
@@ -187,6 +187,7 @@ pub fn copy_transform(repeater: RepeaterStyle, copy: u64) -> Matrix
 }
 
 // The opacity of one copy of so many.
+#[tactic(auto, unfolding(crate::specs::Repeater::opacity_of))]
 fn opacity_of(start: f32, end: f32, count: u64, copy: u64) -> f32
     requires { (count ≤ 2 ^ 24) × (copy ≤ 2 ^ 24) }
     ensures { result ≡ spec.opacity_of start end count copy }
@@ -200,6 +201,7 @@ fn opacity_of(start: f32, end: f32, count: u64, copy: u64) -> f32
 }
 
 // How many copies there are.
+#[tactic(auto, unfolding(crate::specs::Repeater::copy_count))]
 pub fn copy_count(repeater: RepeaterStyle) -> u64
     requires { within count_limit repeater.copies ≡ true }
     ensures { (result ≡ spec.copy_count repeater) × (result ≤ 2 ^ 24) }
@@ -207,6 +209,7 @@ pub fn copy_count(repeater: RepeaterStyle) -> u64
     count::count_up(repeater.copies)
 }
 
+#[tactic(auto, unfolding(crate::specs::Repeater::copy_opacity))]
 pub fn copy_opacity(repeater: RepeaterStyle, copy: u64) -> f32
     requires { (within count_limit repeater.copies ≡ true) × (copy ≤ 2 ^ 24) }
     ensures { result ≡ spec.copy_opacity repeater copy }

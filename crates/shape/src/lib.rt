@@ -198,6 +198,7 @@ fn fits(shape: Shape, list: &[f32], codes: usize, numbers: usize) -> bool
 }
 
 // Writes a shape from the start of two buffers, if it fits them.
+#[tactic(auto, using(crate::proofs::Ways::drawings))]
 pub fn draw_shape(shape: Shape, list: &[f32], codes: &mut [u8], numbers: &mut [f32]) -> Outcome<Size>
     requires { Fit shape list.now }
     ensures { FilledBoth

@@ -3,10 +3,8 @@
 use mathlib.Core.Path.{◌≡◌, ap, ◌∙◌, subst⁻¹}
 use Prim.Native.Nat.{ℕ, ◌+◌, ◌-◌, ◌^◌, ◌<◌, ◌≤◌}
 use native.Mathlib.Omega.{arith}
-use lib.ListN.{get_or, take, drop}
-use lib.Seq.{get_or-take, get_or-drop}
 use borrow.Author.Tests.{lt-ltb, le-ltb}
-use Rattle.sine.specs.Table.{sines, entry}
+use Rattle.sine.specs.Table.{entry}
 use Rattle.sine.specs.Quadrants.{fold_of, size_of, on_of}
 use Rattle.sine.proofs.Entries.{entry_bound}
 
@@ -44,13 +42,4 @@ size_bound k v e h =
     let l : k ≤ 1440 = omega (arith, h) in
     subst⁻¹ (λ (n : ℕ). n ≤ 2 ^ 30) e (entry_bound k l)
 
--- n entries from place i on
-pub row_entry : (i n k : ℕ) → k < n → get_or (take n (drop i sines)) k 0 ≡ entry (i + k)
-row_entry i n k h = get_or-take n (drop i sines) k 0 h ∙ get_or-drop i sines k 0
-
-pub entry_from : (i k v : ℕ) → v ≡ entry (i + (k - i)) → i ≤ k → v ≡ entry k
-entry_from i k v e h =
-    let s : i + (k - i) ≡ k = omega arith in
-    e ∙ ap entry s
-
-pub ruleset ways = (fold_1, fold_2, fold_3, fold_4, on_1, on_2, size_value, size_bound, entry_from)
+pub ruleset ways = (fold_1, fold_2, fold_3, fold_4, on_1, on_2, size_value, size_bound)

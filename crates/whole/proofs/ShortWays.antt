@@ -4,15 +4,15 @@ use Prim.Native.Nat.{ℕ, ◌+◌, ◌-◌, ◌%◌, ◌^◌, ◌<◌}
 use native.Mathlib.Omega.{arith}
 use mathlib.Core.Bool.{Bool, true, false, not, cond}
 use lib.Dec.{T}
-use lib.Ieee.{Float, nan, inf, fin, binary32, sub, mul, neg, lt, fits, is_nan, nan_bits, to_bits}
-use lib.Ieee.Bits.{to_bits-lt}
+use lib.Ieee.{Float, nan, inf, fin, binary32, sub, mul, neg, lt, fits, is_nan, nan_bits, to_bits, of_bits}
+use lib.Ieee.Bits.{to_bits-lt, of_bits-to_bits}
 use Rattle.ieee.specs.Literal.{zero32, one32}
 use Rattle.ieee.specs.Sign.{abs}
 use Rattle.ieee.specs.Limit.{within}
 use Rattle.ieee.specs.Whole.{floor, ceil, round_away}
-use Rattle.ieee.proofs.Pattern.{rest_ok, read_number}
+use Rattle.ieee.proofs.Pattern.{rest_ok, read_number, abs_pattern}
 use Rattle.ieee.proofs.Whole.{floor_way, ceil_way, near_way, floor_way_lem, ceil_way_lem, near_way_lem, floor_goes, ceil_goes, near_goes}
-use Rattle.float.proofs.Ways.{ok_plus, abs_number}
+use Rattle.float.proofs.Ways.{ok_plus}
 use Rattle.whole.specs.Even.{round_even}
 use Rattle.whole.specs.Small.{Small, UnitOf}
 use Rattle.whole.proofs.Even.{even_size_is}
@@ -23,6 +23,9 @@ use Rattle.whole.proofs.Signs.{unit_of, round_short, even_short, abs_neg, mirror
 -- ---- size_of, unit_of
 pub size_ok : (x : Float) → fits binary32 x ≡ true → T (not (is_nan x)) → T (not (nan_bits binary32 (to_bits binary32 x % 2 ^ 31)))
 size_ok x f t = ok_plus (to_bits binary32 x % 2 ^ 31) (read_number x (subst T (sym f) tt) t)
+
+pub abs_number : (x : Float) → fits binary32 x ≡ true → of_bits binary32 (to_bits binary32 x % 2 ^ 31) ≡ abs x
+abs_number x f = abs_pattern (to_bits binary32 x) ∙ ap abs (of_bits-to_bits binary32 x (subst T (sym f) tt))
 
 pub unit_fits : (x : Float) → fits binary32 x ≡ true → to_bits binary32 x - to_bits binary32 x % 2 ^ 31 + 0x3f80_0000 < 2 ^ 32
 unit_fits x f = go (to_bits binary32 x) (to_bits-lt binary32 x (subst T (sym f) tt))

@@ -1,7 +1,8 @@
 -- What each way out of `from_whole`, `down_at` and `up_at` owes, as the code meets it: a premise for each test, so that `search` finds it. Assumes nothing.
 use mathlib.Core.Path.{◌≡◌, refl, sym, ap, ◌∙◌, subst}
-use Prim.Native.Nat.{ℕ, ◌+◌, ◌*◌, ◌/◌, ◌%◌, ◌^◌, ◌≤◌, ◌<◌}
-use native.Mathlib.Nat.{lt_of_lt_of_le, lt_of_le_of_lt, add-zero, zero-mul, mod-eq_of_lt, div-mul-le_self}
+use Prim.Native.Nat.{ℕ, ◌+◌, ◌*◌, ◌/◌, ◌%◌, ◌^◌, ◌≤◌, ◌<◌, min}
+use mathlib.Core.Logic.{inl, inr}
+use native.Mathlib.Nat.{eq-zero-or-pos, lt_of_lt_of_le, lt_of_le_of_lt, add-zero, zero-mul, mod-eq_of_lt, div-mul-le_self}
 use native.Mathlib.Omega.{arith}
 use mathlib.Core.Bool.{Bool, true, false, cond}
 use borrow.Author.Tests.{lt-ltb, le-ltb}
@@ -59,13 +60,22 @@ up_stay q s h g l = (
   omega (arith, halved q s h g),
 )
 
-pub up_none : (q s : ℕ) → q < 2 ^ 24 → 0 < s → 64 ≤ s → q ≡ 0 → (0 ≡ whole_up q (2 ^ s)) × (0 ≤ 2 ^ 24)
+up_none : (q s : ℕ) → q < 2 ^ 24 → 0 < s → 64 ≤ s → q ≡ 0 → (0 ≡ whole_up q (2 ^ s)) × (0 ≤ 2 ^ 24)
 up_none q s h g k z =
     (sym (ap (λ (x : ℕ). x + 0) (past q s h (omega arith))) ∙ up_when q s false (le-ltb (q / 2 ^ s * 2 ^ s) q (omega arith)), omega arith)
 
-pub up_one : (q s : ℕ) → q < 2 ^ 24 → 0 < s → 64 ≤ s → (q ≡ 0 → ⊥) → (1 ≡ whole_up q (2 ^ s)) × (1 ≤ 2 ^ 24)
+up_one : (q s : ℕ) → q < 2 ^ 24 → 0 < s → 64 ≤ s → (q ≡ 0 → ⊥) → (1 ≡ whole_up q (2 ^ s)) × (1 ≤ 2 ^ 24)
 up_one q s h g k n =
     let e : q / 2 ^ s * 2 ^ s ≡ 0 = ap (λ (x : ℕ). x * 2 ^ s) (past q s h (omega arith)) ∙ zero-mul (2 ^ s) in
     (sym (ap (λ (x : ℕ). x + 1) (past q s h (omega arith))) ∙ up_when q s true (lt-ltb (q / 2 ^ s * 2 ^ s) q (omega arith)), omega arith)
 
-pub ruleset ways = (cast_ok, from_minus, from_plus, down_shift, down_past, up_fits, up_next, up_stay, up_none, up_one)
+pub up_far : (q s : ℕ) → q < 2 ^ 24 → 0 < s → 64 ≤ s → (min q 1 ≡ whole_up q (2 ^ s)) × (min q 1 ≤ 2 ^ 24)
+up_far q s h g k = elim (eq-zero-or-pos q) [
+  | inl z ↦ at 0 (omega arith) (up_none q s h g k z)
+  | inr p ↦ at 1 (omega arith) (up_one q s h g k (λ z. absurd (omega arith)))
+]
+  where
+    at : (n : ℕ) → min q 1 ≡ n → (n ≡ whole_up q (2 ^ s)) × (n ≤ 2 ^ 24) → (min q 1 ≡ whole_up q (2 ^ s)) × (min q 1 ≤ 2 ^ 24)
+    at n e r = subst (λ (x : ℕ). (x ≡ whole_up q (2 ^ s)) × (x ≤ 2 ^ 24)) (sym e) r
+
+pub ruleset ways = (cast_ok, from_minus, from_plus, down_shift, down_past, up_fits, up_next, up_stay, up_far)

@@ -1,25 +1,25 @@
 -- What each way out of a function of this crate owes, as the code meets it: a premise for each test and for each call's result, so that `search` finds it. Assumes nothing.
 use mathlib.Core.Path.{◌≡◌, refl, sym, ap, ◌∙◌, subst}
-use mathlib.Core.Logic.{inl, inr}
 use Prim.Native.Nat.{ℕ, zero, suc, ◌+◌, ◌-◌, ◌*◌, ◌/◌, ◌%◌, ◌^◌, ◌≤◌, ◌<◌}
-use native.Mathlib.Nat.{le_refl, le_of_eq, le_of_lt, lt_of_le_of_lt, eq-or-lt_of_le, one-mul, mul-le-mul, div-le_self, div-add-mod', mod-eq_of_lt, pow-le-pow_right}
+use native.Mathlib.Nat.{le_of_lt, one-mul, mul-le-mul, div-le_self, div-add-mod', mod-eq_of_lt, pow-le-pow_right}
 use native.Mathlib.Omega.{arith}
-use mathlib.Core.Bool.{Bool, true, false, not, cond}
-use borrow.Author.Tests.{lt-ltb, le-ltb}
+use mathlib.Core.Bool.{true, false, not}
 use lib.IntN.{pos}
 use lib.Dec.{T, le→leb}
-use lib.Arith.{lt_of_le-ne}
 use lib.Pow.{pow-add}
-use lib.Ieee.{Float, nan, inf, fin, binary32, binary64, units, div, ne, in_float, fits, is_nan, of_bits, nan_bits}
+use lib.Ieee.{Float, nan, inf, fin, binary32, binary64, units, in_float, of_bits, nan_bits}
 use lib.Ieee.Exact.{HasValue}
-use Rattle.ieee.specs.Pattern.{drops_of, units_of, bare, infinity}
-use Rattle.ieee.specs.Root.{isqrt, root_of, hypot_of}
+use lib.Ieee.Scale.{finite}
+use Rattle.std.specs.Float.{float_is_infinite}
+use Rattle.ieee.specs.Pattern.{infinity}
+use Rattle.ieee.specs.Root.{isqrt, hypot_of}
 use Rattle.ieee.proofs.Digits.{lt_pow_mul, four, four_pos, sq_lt}
 use Rattle.ieee.proofs.Isqrt.{isqrt_law, isqrt_is, isqrt_lt, isqrt_ge}
-use Rattle.ieee.proofs.Pattern.{pattern_ok, pattern_inf, read_value, read_inf, read_number, is_nan_lem, is_number, is_number_eq}
+use Rattle.ieee.proofs.Pattern.{pattern_inf}
 use Rattle.ieee.proofs.Wide.{rest_ok_64}
 use Rattle.ieee.proofs.Hypot.{hypot_swap, hypot_units}
-use Rattle.whole_root.specs.Steps.{halved, patterns_of}
+use Rattle.float.specs.declared.parts.Parts.{Parts}
+use Rattle.whole_root.specs.Steps.{halved, root_of_parts}
 use Rattle.whole_root.proofs.Halved.{halved_all, halved_more, halved_low, halved_high}
 use Rattle.whole_root.proofs.Squares.{near_same, near_next, far}
 
@@ -126,81 +126,55 @@ near_next_lt a b n ha hb = omega (arith, whole_lt a b n ha hb)
 pub near_next_left : (a b n : ℕ) → b < 2 ^ 24 → left b n + whole a b n % 4 < 2 ^ 52
 near_next_left a b n hb = omega (arith, left_lt b n hb)
 
-module _ (a i b j n : ℕ) (r : Float) (h : (a < 2 ^ 24) × (b < 2 ^ 24) × (j ≤ i) × (i < 254) × (i < j + 13) × (0 < i → 2 ^ 23 ≤ a)) (e : n ≡ 4 ^ (i - j)) where
+module _ (p q : Parts) (n : ℕ) (r : Float) (h : (q.drops ≤ p.drops) × (p.drops < q.drops + 13)) (e : n ≡ 4 ^ (p.drops - q.drops)) where
   abbrev t : ℕ
-  t = whole a b n
+  t = whole p.digits q.digits n
 
-  pub near_is_same : t < 2 ^ 50 → r ≡ units binary32 false (halved (isqrt t) (left b n + (t - isqrt t * isqrt t))) i → r ≡ root_of binary32 (a * 2 ^ i * (a * 2 ^ i) + b * 2 ^ j * (b * 2 ^ j))
-  near_is_same l u = u ∙ sym (near_same a b i j (i - j) (omega arith) t (left b n) (ap (whole a b) e) (ap (left b) e) l h.5)
+  gap : q.drops + (p.drops - q.drops) ≡ p.drops
+  gap = omega (arith, h.0)
 
-  pub near_is_next : 2 ^ 50 ≤ t → r ≡ units binary32 false (halved (isqrt (t / 4)) (left b n + t % 4 + (t / 4 - isqrt (t / 4) * isqrt (t / 4)))) (i + 1) → r ≡ root_of binary32 (a * 2 ^ i * (a * 2 ^ i) + b * 2 ^ j * (b * 2 ^ j))
-  near_is_next l u = u ∙ sym (near_next a b i j (i - j) (omega arith) t (left b n) (ap (whole a b) e) (ap (left b) e) l (omega (arith, whole_lt a b n h.0 h.1)))
+  pub near_is_same : t < 2 ^ 50 → r ≡ units binary32 false (halved (isqrt t) (left q.digits n + (t - isqrt t * isqrt t))) p.drops → r ≡ root_of_parts p q
+  near_is_same l u = u ∙ sym (near_same p.digits q.digits p.drops q.drops (p.drops - q.drops) gap t (left q.digits n) (ap (whole p.digits q.digits) e) (ap (left q.digits) e) l p.full)
 
--- ---- of_patterns
-pub ok_infinity : T (not (nan_bits binary32 infinity))
-ok_infinity = pattern_ok false infinity (le_refl infinity)
+  pub near_is_next : 2 ^ 50 ≤ t → r ≡ units binary32 false (halved (isqrt (t / 4)) (left q.digits n + t % 4 + (t / 4 - isqrt (t / 4) * isqrt (t / 4)))) (p.drops + 1) → r ≡ root_of_parts p q
+  near_is_next l u =
+      u
+      ∙ sym (near_next p.digits q.digits p.drops q.drops (p.drops - q.drops) gap t (left q.digits n) (ap (whole p.digits q.digits) e) (ap (left q.digits) e) l
+      (omega (arith, whole_lt p.digits q.digits n p.small q.small)))
 
-patterns_finite : (p q : ℕ) → p < infinity → root_of binary32 (units_of p * units_of p + units_of q * units_of q) ≡ patterns_of p q
-patterns_finite p q h = ap (λ (b : Bool). cond b (root_of binary32 (units_of p * units_of p + units_of q * units_of q)) (inf false)) (sym (lt-ltb p infinity h))
+-- ---- of_parts
+pub far_is : (p q : Parts) (r : Float) → q.drops ≤ p.drops → 13 ≤ p.drops - q.drops → r ≡ units binary32 false p.digits p.drops → r ≡ root_of_parts p q
+far_is p q r l g u = u ∙ sym (far p.digits q.digits p.drops q.drops (p.drops - q.drops) (omega arith) g (p.full (omega arith)) p.small q.small)
 
-patterns_infinite : (p q : ℕ) → infinity ≤ p → inf false ≡ patterns_of p q
-patterns_infinite p q h = ap (λ (b : Bool). cond b (root_of binary32 (units_of p * units_of p + units_of q * units_of q)) (inf false)) (sym (le-ltb p infinity h))
+-- ---- hypot_exact
+abbrev pub Valued : Float → Parts → Type 0
+Valued x p = HasValue x p.negative (p.digits * 2 ^ p.drops) (2 ^ 149)
 
-abbrev sum : ℕ → ℕ → ℕ → ℕ → ℕ
-sum a i b j = a * 2 ^ i * (a * 2 ^ i) + b * 2 ^ j * (b * 2 ^ j)
+pub parts_hypot : (x y r : Float) (p q : Parts) → Valued x p → Valued y q → r ≡ root_of_parts p q → r ≡ hypot_of binary32 x y
+parts_hypot x y r p q v w e = e ∙ sym (hypot_units binary32 x y _ _ _ _ v w)
 
-pub patterns_near : (p q i j : ℕ) (r : Float) → i ≡ drops_of p → j ≡ drops_of q → p < infinity → r ≡ root_of binary32 (sum (p - i * 2 ^ 23) i (q - j * 2 ^ 23) j) → r ≡ patterns_of p q
-patterns_near p q i j r e d h u = u ∙ (λ k. root_of binary32 (sum (p - e k * 2 ^ 23) (e k) (q - d k * 2 ^ 23) (d k))) ∙ patterns_finite p q h
+pub swapped_hypot : (x y r : Float) (p q : Parts) → Valued x p → Valued y q → r ≡ root_of_parts q p → r ≡ hypot_of binary32 x y
+swapped_hypot x y r p q v w e = parts_hypot y x r q p w v e ∙ hypot_swap binary32 y x
 
-pub patterns_far : (p q i j : ℕ) (r : Float) → i ≡ drops_of p → j ≡ drops_of q → p < infinity → (q ≤ p) × (p ≤ infinity) → 13 ≤ i - j → r ≡ units binary32 false (p - i * 2 ^ 23) i → r ≡ patterns_of p q
-patterns_far p q i j r e d h o g u =
-    patterns_near p q i j r e d h
-    (u ∙ sym (far (p - i * 2 ^ 23) (q - j * 2 ^ 23) i j (i - j) (omega arith) g (omega arith) (omega arith) (omega arith)))
+pub infinite_first : (x y : Float) → float_is_infinite x ≡ true → of_bits binary32 infinity ≡ hypot_of binary32 x y
+unfolding float_is_infinite hypot_of
+infinite_first nan y h = absurd (subst T (sym h) tt)
+infinite_first (inf s) y h = pattern_inf false
+infinite_first (fin s m e) y h = absurd (subst T (sym h) tt)
 
-pub patterns_inf : (p q : ℕ) → infinity ≤ p → of_bits binary32 infinity ≡ patterns_of p q
-patterns_inf p q h = pattern_inf false ∙ patterns_infinite p q h
+pub infinite_second : (x y : Float) → float_is_infinite y ≡ true → of_bits binary32 infinity ≡ hypot_of binary32 x y
+infinite_second x y h = infinite_first y x h ∙ hypot_swap binary32 y x
 
--- ---- of_numbers
-pub numbers_le : (x : Float) → fits binary32 x ≡ true → T (not (is_nan x)) → bare x ≤ infinity
-numbers_le x f t = read_number x (subst T (sym f) tt) t
+-- no infinity, and one of them not finite: a NaN
+pub nan_first : (x y : Float) → finite x ≡ false → float_is_infinite x ≡ false → float_is_infinite y ≡ false → of_bits binary32 0x7fc0_0000 ≡ hypot_of binary32 x y
+unfolding float_is_infinite hypot_of of_bits
+nan_first nan nan f h k = refl
+nan_first nan (inf t) f h k = absurd (subst T k tt)
+nan_first nan (fin t n d) f h k = refl
+nan_first (inf s) y f h k = absurd (subst T h tt)
+nan_first (fin s m e) y f h k = absurd (subst T f tt)
 
-hypot_inf : (x y : Float) (s : Bool) → x ≡ inf s → hypot_of binary32 x y ≡ inf false
-unfolding hypot_of
-hypot_inf x y s e = ap (λ (v : Float). hypot_of binary32 v y) e
+pub nan_second : (x y : Float) → finite y ≡ false → float_is_infinite x ≡ false → float_is_infinite y ≡ false → of_bits binary32 0x7fc0_0000 ≡ hypot_of binary32 x y
+nan_second x y f h k = nan_first y x f k h ∙ hypot_swap binary32 y x
 
-pub numbers_is : (x y r : Float) → fits binary32 x ≡ true → fits binary32 y ≡ true → T (not (is_nan x)) → bare y ≤ bare x → r ≡ patterns_of (bare x) (bare y) → r ≡ hypot_of binary32 x y
-numbers_is x y r f g n l e = e ∙ elim (eq-or-lt_of_le (read_number x (subst T (sym f) tt) n)) [
-  | inl h ↦ sym (patterns_infinite (bare x) (bare y) (le_of_eq (sym h))) ∙ sym (hypot_inf x y _ (read_inf x (subst T (sym f) tt) h))
-  | inr h ↦ sym (patterns_finite (bare x) (bare y) h) ∙ sym (hypot_units binary32 x y _ _ (units_of (bare x)) (units_of (bare y)) (read_value x (subst T (sym f) tt) h) (read_value y (subst T (sym g) tt) (lt_of_le_of_lt l h)))
-]
-
-pub numbers_swapped : (x y r : Float) → fits binary32 x ≡ true → fits binary32 y ≡ true → T (not (is_nan y)) → bare x < bare y → r ≡ patterns_of (bare y) (bare x) → r ≡ hypot_of binary32 x y
-numbers_swapped x y r f g n l e = numbers_is y x r g f n (le_of_lt l) e ∙ hypot_swap binary32 y x
-
--- ---- beside_nan, hypot_exact
-pub nan_nan : (y : Float) → ne y y ≡ true → y ≡ hypot_of binary32 nan y
-unfolding hypot_of
-nan_nan y h = let e = is_nan_lem y h in e ∙ ap (hypot_of binary32 nan) (sym e)
-
-pub nan_inf : (y : Float) → fits binary32 y ≡ true → bare y ≡ infinity → of_bits binary32 infinity ≡ hypot_of binary32 nan y
-unfolding hypot_of
-nan_inf y f h = pattern_inf false ∙ ap (hypot_of binary32 nan) (sym (read_inf y (subst T (sym f) tt) h))
-
-nan_finite : (y : Float) (s : Bool) (a : ℕ) → HasValue y s a (2 ^ 149) → div binary32 (of_bits binary32 0) (of_bits binary32 0) ≡ hypot_of binary32 nan y
-unfolding hypot_of div of_bits
-nan_finite nan s a h = absurd h
-nan_finite (inf t) s a h = absurd h
-nan_finite (fin t m e) s a h = refl
-
-pub nan_other : (y : Float) → fits binary32 y ≡ true → ne y y ≡ false → (bare y ≡ infinity → ⊥) → div binary32 (of_bits binary32 0) (of_bits binary32 0) ≡ hypot_of binary32 nan y
-nan_other y f n h =
-    let t = subst T (sym f) tt in
-    nan_finite y _ (units_of (bare y)) (read_value y t (lt_of_le-ne (read_number y t (is_number y n)) h))
-
-pub hypot_first : (x y r : Float) → ne x x ≡ true → r ≡ hypot_of binary32 nan y → r ≡ hypot_of binary32 x y
-hypot_first x y r h e = e ∙ ap (λ (v : Float). hypot_of binary32 v y) (sym (is_nan_lem x h))
-
-pub hypot_second : (x y r : Float) → ne y y ≡ true → r ≡ hypot_of binary32 nan x → r ≡ hypot_of binary32 x y
-hypot_second x y r h e = hypot_first y x r h e ∙ hypot_swap binary32 y x
-
-pub ruleset ways = (guess_exact, is_number_eq, guess_ok, root_fits, root_fits_next, root_pos, root_less, root_below, root_is, halved_all, halved_more, rounded_square, rounded_fits, rounded_short, rounded_le, rounded_full, rounded_is, shifted, near_power, near_fits, near_fits_4, near_sum, near_left, near_full, near_next_fits, near_next_lt, near_next_left, near_is_same, near_is_next, ok_infinity, patterns_near, patterns_far, patterns_inf, numbers_le, numbers_is, numbers_swapped, is_number, nan_nan, nan_inf, nan_other, hypot_first, hypot_second)
+pub ruleset ways = (guess_exact, guess_ok, root_fits, root_fits_next, root_pos, root_less, root_below, root_is, halved_all, halved_more, rounded_square, rounded_fits, rounded_short, rounded_le, rounded_full, rounded_is, shifted, near_power, near_fits, near_fits_4, near_sum, near_left, near_full, near_next_fits, near_next_lt, near_next_left, near_is_same, near_is_next, far_is, parts_hypot, swapped_hypot, infinite_first, infinite_second, nan_first, nan_second)

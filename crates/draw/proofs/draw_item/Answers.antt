@@ -1,13 +1,12 @@
 -- `draw::draw_item` meets its contract. Assumes nothing.
 use borrow.Author.Rules.{rules}
-use Rattle.draw.proofs.Ways.{item_drawings}
+use Rattle.draw.proofs.Ways.{item_refused, item_filled}
 use Rattle.draw.proofs.draw_item.Goals as goal
 
-pub item_row-requires : goal.item_row-requires
-item_row-requires c = search (rules, item_drawings)
+pub returns-in_err-check_row : goal.returns-in_err-check_row
+returns-in_err-check_row c =
+    let f = item_refused c.args.row.now c.args.items.now _ c.check_row.ensures c.args.codes.now c.args.numbers.now _ c.in_err-check_row.was in
+    search rules
 
-pub returns-in-Refused : goal.returns-in-Refused
-returns-in-Err c = search (rules, item_drawings)
-
-pub returns-in-Ok tt : goal.returns-in-Ok tt
-returns-in-Ok tt c = search (rules, item_drawings)
+pub returns : goal.returns
+returns c = item_filled _ _ _ c.check_row.ensures c.in_ok-check_row.was _ _ _ _ _ _ c.item_row.ensures c.draw_source.ensures

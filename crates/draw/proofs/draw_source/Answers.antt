@@ -1,13 +1,9 @@
 -- `draw::draw_source` meets its contract. Assumes nothing.
 use borrow.Author.Rules.{rules}
-use Rattle.draw.proofs.Ways.{source_drawings}
+use Rattle.draw.proofs.Ways.{source_refused}
 use Rattle.draw.proofs.draw_source.Goals as goal
 
-pub shape_of-requires-in-Ok tt : goal.shape_of-requires-in-Ok tt
-shape_of-requires-in-Ok tt c = search (rules, source_drawings)
-
-pub returns-in-Refused : goal.returns-in-Refused
-returns-in-Err c = search (rules, source_drawings)
-
-pub returns-in-Ok tt : goal.returns-in-Ok tt
-returns-in-Ok tt c = search (rules, source_drawings)
+pub returns-in_err-check_source : goal.returns-in_err-check_source
+returns-in_err-check_source c =
+    let f = source_refused _ _ _ c.check_source.ensures c.args.codes.now c.args.numbers.now _ c.in_err-check_source.was in
+    search rules

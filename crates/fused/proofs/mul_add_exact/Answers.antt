@@ -1,22 +1,6 @@
 -- `fused::mul_add_exact` meets its contract. Assumes nothing.
-use Rattle.fused.proofs.Ways.{ways, product_fits}
-use borrow.Author.Rules.{rules}
+use Rattle.fused.proofs.Ways.{all_finite_lem}
 use Rattle.fused.proofs.mul_add_exact.Goals as goal
 
-pub overflow_mul-x : goal.overflow_mul-x
-overflow_mul-x c = record { fits = search product_fits }
-
-pub exact-requires : goal.exact-requires
-exact-requires c = search (rules, ways)
-
-pub returns-then-z : goal.returns-then-z
-returns-then-z c = search (rules, ways)
-
-pub returns-else-z : goal.returns-else-z
-returns-else-z c = search (rules, ways)
-
-pub returns-else-y : goal.returns-else-y
-returns-else-y c = search (rules, ways)
-
-pub returns-else-x : goal.returns-else-x
-returns-else-x c = search (rules, ways)
+pub returns : goal.returns
+returns c = let h = c.in-Some-Some in all_finite_lem c.args.a c.args.b c.args.c h.x h.y c.in-Some.z (rw h.is-0 at c.split.ensures) (rw h.is-1 at c.split-2.ensures) c.in-Some.ensures _ c.plus.ensures

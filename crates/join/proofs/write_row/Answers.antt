@@ -10,7 +10,7 @@ shape_of-requires-then-is_source c = (search (rules, row_writes), search (rules,
 
 pub offset_bounds-items-place : goal.offset_bounds-items-place
 offset_bounds-items-place c =
-    let h = sound_place _ c.args.items.now _ _ refl c.in-Sound.ensures.1 in
+    let h = sound_place _ c.args.items.now _ _ refl c.in-Ok.ensures.1 in
     search rules
 
 pub slice_bounds-write_at-count : goal.slice_bounds-write_at-count
@@ -22,13 +22,13 @@ slice_bounds-write_at-start c = search (rules, row_writes)
 pub write_at-requires : goal.write_at-requires
 write_at-requires c = record { fit = search (rules, row_writes); list_in_bounds = search (rules, row_writes); list_in_bounds_2 = search (rules, row_writes) }
 
-pub returns-in-Fault : goal.returns-in-Fault
+pub returns-in-Err : goal.returns-in-Err
 returns-in-Err c =
     row_not_refused c.args.row c.args.items.now _ c.is_source.ensures (search rules) (search rules) _
-    c.in-Fault.ensures.0 _ refl
+    c.in-Err.ensures.0 _ refl
 
-pub returns-in-Sound : goal.returns-in-Sound
-returns-in-Sound c = record { codes_value = search (rules, row_writes); numbers_value = search (rules, row_writes); codes_after = search (rules, row_writes); numbers_after = search (rules, row_writes) }
+pub returns-in-Ok : goal.returns-in-Ok
+returns-in-Ok c = record { codes_value = search (rules, row_writes); numbers_value = search (rules, row_writes); codes_after = search (rules, row_writes); numbers_after = search (rules, row_writes) }
 
 pub returns-else-is_source : goal.returns-else-is_source
 returns-else-is_source c = record { codes_value = search (rules, row_writes); numbers_value = search (rules, row_writes); codes_after = search (rules, row_writes); numbers_after = search (rules, row_writes) }

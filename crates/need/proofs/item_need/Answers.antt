@@ -1,19 +1,23 @@
 -- `need::item_need` meets its contract. Assumes nothing.
 use borrow.Author.Rules.{rules}
-use Rattle.need.proofs.Ways.{item_needs}
+use Rattle.need.proofs.Ways.{item_turned, item_source_turned, item_needs}
 use Rattle.need.proofs.item_need.Goals as goal
+
+pub returns-in_err-check_row : goal.returns-in_err-check_row
+returns-in_err-check_row c =
+    let f = item_turned c.args.row.now c.args.items.now _ c.check_row.ensures _ c.in_err-check_row.was in
+    search rules
 
 pub item_row-first-requires : goal.item_row-first-requires
 item_row-first-requires c = search (rules, item_needs)
 
-pub shape_of-requires-in-Ok tt-check_source : goal.shape_of-requires-in-Ok tt-check_source
-shape_of-requires-in-Ok tt-check_source c = search (rules, item_needs)
+pub returns-in_err-check_source : goal.returns-in_err-check_source
+returns-in_err-check_source c =
+    let f = item_source_turned c.args.row.now c.args.items.now _ c.check_row.ensures c.in_ok-check_row.was _ c.item_row-first.ensures _ c.check_source.ensures _ c.in_err-check_source.was in
+    search rules
 
-pub returns-in-Refused : goal.returns-in-Refused
-returns-in-Err c = search (rules, item_needs)
+pub shape_of-requires : goal.shape_of-requires
+shape_of-requires c = search (rules, item_needs)
 
-pub returns-in-Refused-check_source : goal.returns-in-Refused-check_source
-returns-in-Refused-check_source c = search (rules, item_needs)
-
-pub returns-in-Ok tt-check_source : goal.returns-in-Ok tt-check_source
-returns-in-Ok tt-check_source c = search (rules, item_needs)
+pub returns : goal.returns
+returns c = search (rules, item_needs)

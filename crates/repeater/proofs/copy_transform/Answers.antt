@@ -3,9 +3,6 @@ use borrow.Author.Rules.{rules}
 use Rattle.repeater.proofs.Ways.{copying}
 use Rattle.repeater.proofs.copy_transform.Goals as goal
 
-pub from_whole-requires : goal.from_whole-requires
-from_whole-requires c = search (rules, copying)
-
 pub iteration_transform-requires : goal.iteration_transform-requires
 iteration_transform-requires c = search (rules, copying)
 

@@ -1,25 +1,18 @@
 -- `repeater::plain_steps` meets its contract. Assumes nothing.
-use borrow.Author.Rules.{rules}
-use Rattle.repeater.proofs.Ways.{repeating}
+use Rattle.std.proofs.Common.{rules, arith, ℕ, ◌∙◌, ap, refl}
+use Rattle.std.specs.List.{fold, range_with_len}
+use Rattle.std.proofs.lemmas.Iterator.{YieldsList-from_range}
+use Rattle.std.proofs.lemmas.Iterator.Consumers.{fold_from_yields_List}
+use Rattle.matrix.specs.declared.Matrix.{Matrix}
+use Rattle.matrix.specs.Matrix.{concat}
+use Rattle.repeater.proofs.Ways.{steps_folded}
 use Rattle.repeater.proofs.plain_steps.Goals as goal
 
-pub identity-transform-requires : goal.identity-transform-requires
-identity-transform-requires c = search (rules, repeating)
-
-pub loop-i-init : goal.loop-i-init
-loop-i-init c = search (rules, repeating)
-
-pub concat-transform-requires : goal.concat-transform-requires
-concat-transform-requires c = search (rules, repeating)
-
-pub overflow_add-i : goal.overflow_add-i
-overflow_add-i c = search (rules, repeating)
-
-pub loop-i-smaller : goal.loop-i-smaller
-loop-i-smaller c = search (rules, repeating)
-
-pub loop-i-preserved : goal.loop-i-preserved
-loop-i-preserved c = search (rules, repeating)
-
 pub returns : goal.returns
-returns c = search (rules, repeating)
+returns c =
+    let step = c.args.step in
+    let n = c.args.n in
+    fold_from_yields_List _ (λ (m : Matrix) (k : ℕ). concat m step) c.identity.result c.fold.result c.fold.ensures.ran
+    (YieldsList-from_range 0 n n refl (omega arith)) (λ a x b q k. search rules)
+    ∙ ap (λ (m : Matrix). fold (λ (m : Matrix) (k : ℕ). concat m step) m (range_with_len 0 n)) c.identity.ensures
+    ∙ steps_folded n 0 step

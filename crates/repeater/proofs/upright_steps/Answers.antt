@@ -1,25 +1,18 @@
 -- `repeater::upright_steps` meets its contract. Assumes nothing.
-use borrow.Author.Rules.{rules}
-use Rattle.repeater.proofs.Quickly.{quickly}
+use Rattle.std.proofs.Common.{rules, arith, ℕ, ◌∙◌, ap, refl}
+use Rattle.std.specs.List.{fold, range_with_len}
+use Rattle.std.proofs.lemmas.Iterator.{YieldsList-from_range}
+use Rattle.std.proofs.lemmas.Iterator.Consumers.{fold_from_yields_List}
+use Rattle.matrix.specs.declared.Matrix.{Matrix}
+use Rattle.repeater.specs.Upright.{upright_concat}
+use Rattle.repeater.proofs.Ways.{upright_folded}
 use Rattle.repeater.proofs.upright_steps.Goals as goal
 
-pub identity-transform-requires : goal.identity-transform-requires
-identity-transform-requires c = search (rules, quickly)
-
-pub loop-i-init : goal.loop-i-init
-loop-i-init c = search (rules, quickly)
-
-pub upright_concat-transform-requires : goal.upright_concat-transform-requires
-upright_concat-transform-requires c = search (rules, quickly)
-
-pub overflow_add-i : goal.overflow_add-i
-overflow_add-i c = search (rules, quickly)
-
-pub loop-i-smaller : goal.loop-i-smaller
-loop-i-smaller c = search (rules, quickly)
-
-pub loop-i-preserved : goal.loop-i-preserved
-loop-i-preserved c = search (rules, quickly)
-
 pub returns : goal.returns
-returns c = search (rules, quickly)
+returns c =
+    let step = c.args.step in
+    let n = c.args.n in
+    fold_from_yields_List _ (λ (m : Matrix) (k : ℕ). upright_concat m step) c.identity.result c.fold.result c.fold.ensures.ran
+    (YieldsList-from_range 0 n n refl (omega arith)) (λ a x b q k. search rules)
+    ∙ ap (λ (m : Matrix). fold (λ (m : Matrix) (k : ℕ). upright_concat m step) m (range_with_len 0 n)) c.identity.ensures
+    ∙ upright_folded n 0 step

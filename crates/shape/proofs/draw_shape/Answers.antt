@@ -3,9 +3,6 @@ use borrow.Author.Rules.{rules}
 use Rattle.shape.proofs.Ways.{drawings}
 use Rattle.shape.proofs.draw_shape.Goals as goal
 
-pub write_at-written-requires : goal.write_at-written-requires
-write_at-written-requires c = record { fit = search rules; list_in_bounds = search (rules, drawings); list_in_bounds_2 = search (rules, drawings) }
-
 pub returns-then-fits : goal.returns-then-fits
 returns-then-fits c = search (rules, drawings)
 

@@ -1,7 +1,0 @@
--- `matrix::concat` meets its contract. Assumes nothing.
-use borrow.Author.Rules.{rules}
-use Rattle.matrix.proofs.Ways.{products}
-use Rattle.matrix.proofs.concat.Goals as goal
-
-pub returns : goal.returns
-returns c = search (rules, products)
