@@ -1,18 +1,15 @@
 -- What each way out of a function of this crate owes, as the code meets it: a premise for each test and for each call's result.
 -- Assumes nothing.
 use mathlib.Core.Path.{◌≡◌, refl, sym, ap, ◌∙◌}
-use mathlib.Core.Bool.{true}
+use mathlib.Core.Bool.{true, true≢false}
 use mathlib.Core.List.{List, [], ◌∷◌, ◌++◌, map, append-nil}
-use Prim.Native.Nat.{ℕ, zero, suc, ◌+◌, ◌-◌, ◌*◌, ◌/◌, ◌%◌, ◌^◌, ◌≤◌, ◌<◌}
+use Prim.Native.Nat.{ℕ, zero, suc, ◌+◌, ◌-◌, ◌*◌, ◌/◌, ◌≤◌, ◌<◌}
 use native.Mathlib.Numerals.{add-one}
 use native.Mathlib.Omega.{arith}
-use mir.Val.{Fits}
-use mir.Syntax.{w64}
-use lib.Ieee.{Float, binary32, nan, ne, to_bits}
-use lib.ListN.{length, set, get_or, take, drop, length-set, length-append, length-map, drop_of_length-le}
-use lib.Seq.{sets, drop-cons, drop-drop, set_comm, length-sets}
-use borrow.Author.Tests.{eq-eqb, ne_eqb}
-use Rattle.ieee.proofs.Pattern.{is_nan_lem, is_number}
+use lib.Ieee.{Float, binary32, nan, inf, fin, is_nan, to_bits}
+use lib.ListN.{length, set, get_or, take, drop, length-set, length-append, length-drop, length-map, drop_of_length-le}
+use lib.Seq.{sets, drop-cons, set_comm, length-sets}
+use Rattle.ieee.proofs.Pattern.{is_number}
 use Rattle.command.specs.declared.Refusal.{Refusal}
 use Rattle.command.specs.Buffers.{onto}
 use Rattle.command.specs.Refusals.{refusal_number}
@@ -24,23 +21,13 @@ use Rattle.plate_print.proofs.Columns.{leading_length, column_length}
 use Rattle.plate_print.proofs.Lines.{columns_length, line_length, numbers_line_length, list_most, list_text_length}
 
 -- ---- bits
-pub nan_bits : (x : Float) → ne x x ≡ true → 0x7fc0_0000 ≡ to_bits binary32 x
-nan_bits x h = sym (ap (to_bits binary32) (is_nan_lem x h) ∙ unfold to_bits in refl)
+pub nan_bits : (x : Float) → is_nan x ≡ true → 0x7fc0_0000 ≡ to_bits binary32 x
+unfolding is_nan to_bits
+nan_bits nan e = refl
+nan_bits (inf s) e = absurd (true≢false (sym e))
+nan_bits (fin s m k) e = absurd (true≢false (sym e))
 
--- ---- digit, leading_digit
-pub digit_is : (n : ℕ) → 48 + n % 10 ≡ digit_of n
-unfolding digit_of
-digit_is n = refl
-
-pub leading_blank : (n : ℕ) → n ≡ 0 → 32 ≡ leading_digit n
-unfolding leading_digit
-leading_blank n e = rw (eq-eqb n 0 e)
-
-pub leading_some : (n b : ℕ) → (n ≡ 0 → ⊥) → b ≡ digit_of n → b ≡ leading_digit n
-unfolding leading_digit
-leading_some n b e d = rw (ne_eqb n 0 e) d
-
-pub ruleset digits = (nan_bits, is_number, digit_is, leading_blank, leading_some)
+pub ruleset digits = (nan_bits, is_number)
 
 -- ---- put_leading
 -- a store past a run of stores may come before it
@@ -225,68 +212,60 @@ module _ (out : List ℕ) (at code : ℕ) (v : List Float) (room : at + length (
 pub ruleset line_ways = (numbers_line_place, numbers_line_stores, line_place, line_stores, code_room, numbers_room, newline_room)
 
 -- ---- put_commands
--- the commands from place i on, printed on the buffer as it is, give all of them on the buffer as it was; each has its numbers
-pub record Printing (codes : List ℕ) (numbers : List Float) (out₀ out : List ℕ) (at place i : ℕ) : Type 0 where
+-- the commands from place i on, printed with the rest of the numbers on the buffer as it is, give all of them on the buffer as it was; each has its numbers
+pub record Printing (codes : List ℕ) (numbers : List Float) (out₀ out : List ℕ) (at : ℕ) (rest : List Float) (i : ℕ) : Type 0 where
   pub bound : i ≤ length codes
-  pub there : place + place_of (length (drop i codes)) (drop i codes) ≤ length numbers
+  pub there : place_of (length (drop i codes)) (drop i codes) ≤ length rest
   pub same : length out ≡ length out₀
-  pub next : at + length (list_lines (drop i codes) (drop place numbers)) ≡ length (list_lines codes numbers)
-  pub last : sets out at (list_lines (drop i codes) (drop place numbers)) ≡ sets out₀ 0 (list_lines codes numbers)
+  pub next : at + length (list_lines (drop i codes) rest) ≡ length (list_lines codes numbers)
+  pub last : sets out at (list_lines (drop i codes) rest) ≡ sets out₀ 0 (list_lines codes numbers)
 
 module _ (codes : List ℕ) (numbers : List Float) (out₀ : List ℕ) where
-  pub printing_start : place_of (length codes) codes ≤ length numbers → Printing codes numbers out₀ out₀ 0 0 0
-  printing_start h = record { bound = omega arith; there = omega arith; same = refl; next = omega arith; last = refl }
+  pub printing_start : place_of (length codes) codes ≤ length numbers → Printing codes numbers out₀ out₀ 0 numbers 0
+  printing_start h = record { bound = omega arith; there = h; same = refl; next = omega arith; last = refl }
 
-  module _ (out : List ℕ) (at place i : ℕ) (p : Printing codes numbers out₀ out at place i) where
+  module _ (out : List ℕ) (at : ℕ) (rest : List Float) (i : ℕ) (p : Printing codes numbers out₀ out at rest i) where
     abbrev c : ℕ
     c = get_or codes i 0
 
-    module _ (h : i < length codes) (n : ℕ) (n_is : n ≡ size_of_code c) where
+    module _ (h : i < length codes) where
       codes_rest : drop i codes ≡ c ∷ drop (i + 1) codes
       codes_rest = rw (add-one, drop-cons codes i 0 h)
 
-      -- the numbers of this command, as the code cuts them out
-      abbrev v : List Float
-      v = take (place + n - place) (drop place numbers)
-
-      places : place_of (length (drop i codes)) (drop i codes) ≡ n + place_of (length (drop (i + 1) codes)) (drop (i + 1) codes)
+      places : place_of (length (drop i codes)) (drop i codes) ≡ size_of_code c + place_of (length (drop (i + 1) codes)) (drop (i + 1) codes)
       unfolding place_of
-      places = rw (codes_rest, n_is)
+      places = rw codes_rest
 
-      lines : list_lines (drop i codes) (drop place numbers) ≡ numbers_line c v ++ list_lines (drop (i + 1) codes) (drop (place + n) numbers)
-      unfolding list_lines
-      lines =
-          let size : place + n - place ≡ size_of_code c = omega arith in
-          rw (codes_rest, size, ← drop-drop n place numbers, n_is)
+      pub numbers_inside : size_of_code c ≤ length rest
+      numbers_inside = omega (arith, p.there, places)
 
-      lines_length : length (list_lines (drop i codes) (drop place numbers))
-          ≡ length (numbers_line c v) + length (list_lines (drop (i + 1) codes) (drop (place + n) numbers))
-      lines_length = ap length lines ∙ length-append (numbers_line c v) (list_lines (drop (i + 1) codes) (drop (place + n) numbers))
+      -- the numbers of this command and those after them, as the code splits them
+      module _ (n : ℕ) (n_is : n ≡ size_of_code c) (own after : List Float) (own_is : own ≡ take n rest) (after_is : after ≡ drop n rest) where
+        lines : list_lines (drop i codes) rest ≡ numbers_line c own ++ list_lines (drop (i + 1) codes) after
+        unfolding list_lines
+        lines = rw (codes_rest, own_is, after_is, n_is)
 
-      pub part_inside : place + n ≤ length numbers
-      part_inside = omega (arith, p.there, places)
+        lines_length : length (list_lines (drop i codes) rest) ≡ length (numbers_line c own) + length (list_lines (drop (i + 1) codes) after)
+        lines_length = ap length lines ∙ length-append (numbers_line c own) (list_lines (drop (i + 1) codes) after)
 
-      pub part_fits : length numbers < 2 ^ 64 → Fits w64 (place + n)
-      part_fits g = record { fits = let i = part_inside in omega arith }
+        pub printing_room : 69 * length codes ≤ length out₀ → at + length (numbers_line c own) ≤ length out
+        printing_room room = omega (arith, p.next, p.same, lines_length, list_most codes numbers)
 
-      pub printing_room : 69 * length codes ≤ length out₀ → at + length (numbers_line c v) ≤ length out
-      printing_room room = omega (arith, p.next, p.same, lines_length, list_most codes numbers)
-
-      pub printing_turn : (out' : List ℕ) (at' place' i' : ℕ) → at' ≡ at + length (numbers_line c v) → out' ≡ sets out at (numbers_line c v)
-          → place' ≡ place + n → i' ≡ i + 1 → Printing codes numbers out₀ out' at' place' i'
-      printing_turn out' at' place' i' at_is out_is place_is i_is =
-          let rest = list_lines (drop (i + 1) codes) (drop (place + n) numbers) in
-          rw (place_is, i_is)
-          (record {
-            bound = omega arith;
-            there = omega (arith, p.there, places);
-            same = ap length out_is ∙ length-sets out at (numbers_line c v) ∙ p.same;
-            next = omega (arith, p.next, lines_length);
-            last = rw (out_is, at_is) (sym (sets_append (numbers_line c v) rest out at) ∙ ap (sets out at) (sym lines) ∙ p.last);
-          })
+        pub printing_turn : (out' : List ℕ) (at' : ℕ) → at' ≡ at + length (numbers_line c own) → out' ≡ sets out at (numbers_line c own)
+            → Printing codes numbers out₀ out' at' after (i + 1)
+        printing_turn out' at' at_is out_is =
+            let left = list_lines (drop (i + 1) codes) after in
+            let long = ap length after_is ∙ length-drop n rest in
+            record {
+              bound = omega arith;
+              there = omega (arith, p.there, places, long);
+              same = ap length out_is ∙ length-sets out at (numbers_line c own) ∙ p.same;
+              next = omega (arith, p.next, lines_length);
+              last = rw (out_is, at_is) (sym (sets_append (numbers_line c own) left out at) ∙ ap (sets out at) (sym lines) ∙ p.last);
+            }
 
     module _ (h : length codes ≤ i) where
-      none : list_lines (drop i codes) (drop place numbers) ≡ []
+      none : list_lines (drop i codes) rest ≡ []
       unfolding list_lines
       none = rw (drop_of_length-le codes {i = i} h)
 
@@ -299,7 +278,7 @@ module _ (codes : List ℕ) (numbers : List Float) (out₀ : List ℕ) where
     pub printing_same : length out ≡ length out₀
     printing_same = p.same
 
-pub ruleset command_ways = (printing_start, part_inside, part_fits, printing_room, printing_turn, printing_end, printing_done, printing_same)
+pub ruleset command_ways = (printing_start, numbers_inside, printing_room, printing_turn, printing_end, printing_done, printing_same)
 
 -- ---- print_refusal, print_answer
 module _ (refusal : Refusal) (out last : List ℕ) (n next : ℕ) (n_is : n ≡ refusal_number refusal) where

@@ -15,10 +15,11 @@ use command::Refusal;
 fn bits(x: f32) -> u32
     ensures { result ≡ to_bits binary32 x }
 {
-    if x != x { 0x7fc0_0000 } else { f32::to_bits(x) }
+    if x.is_nan() { 0x7fc0_0000 } else { x.to_bits() }
 }
 
 // The last digit of a number.
+#[tactic(auto, unfolding(crate::specs::Lines::digit_of))]
 fn digit(n: u32) -> u8
     ensures { result ≡ digit_of n }
 {
@@ -26,6 +27,7 @@ fn digit(n: u32) -> u8
 }
 
 // The last digit of a number, or a blank where there is none left.
+#[tactic(auto, unfolding(crate::specs::Lines::leading_digit))]
 fn leading_digit(n: u32) -> u8
     ensures { result ≡ leading_digit n }
 {
@@ -37,11 +39,9 @@ fn put_leading(out: &mut [u8], at: usize, width: usize, value: u32)
     requires { at + width ≤ length out.old }
     ensures { out.new ≡ sets out.old at (leading width value) }
 {
-    let mut left = width;
     let mut rest = value;
-    while left > 0 {
-        left -= 1;
-        out[at + left] = leading_digit(rest);
+    for i in (0..width).rev() {
+        out[at + i] = leading_digit(rest);
         rest /= 10;
     }
 }
@@ -64,10 +64,8 @@ fn put_columns(out: &mut [u8], at: usize, numbers: &[f32]) -> usize
     ensures out_after { out.new ≡ sets out.old at (columns (map (to_bits binary32) numbers.now)) }
 {
     let mut next = at;
-    let mut i: usize = 0;
-    while i < numbers.len() {
-        next = put_column(out, next, 11, bits(numbers[i]));
-        i += 1;
+    for number in numbers {
+        next = put_column(out, next, 11, bits(*number));
     }
     next
 }
@@ -118,15 +116,12 @@ fn put_commands(codes: &[u8], numbers: &[f32], out: &mut [u8]) -> usize
     ensures value { result ≡ length (list_lines codes.now numbers.now) }
     ensures out_after { out.new ≡ sets out.old 0 (list_lines codes.now numbers.now) }
 {
-    let mut at: usize = 0;
-    let mut place: usize = 0;
-    let mut i: usize = 0;
-    while i < codes.len() {
-        let code = codes[i];
-        let n = reader::size_of_code(code);
-        at = put_numbers_line(out, at, code, &numbers[place..place + n]);
-        place += n;
-        i += 1;
+    let mut at = 0;
+    let mut rest = numbers;
+    for code in codes {
+        let (own, after) = rest.split_at(reader::size_of_code(*code));
+        at = put_numbers_line(out, at, *code, own);
+        rest = after;
     }
     at
 }

@@ -1,49 +1,26 @@
 -- `plate_print::put_commands` meets its contract. Assumes nothing.
-use borrow.Author.Rules.{rules}
-use Rattle.plate_print.proofs.Ways.{printing_turn, command_ways}
+use Rattle.std.proofs.Common.{rules, ◌≡◌, take, drop}
+use Rattle.plate_print.proofs.Ways.{command_ways, printing_room, printing_turn}
 use Rattle.plate_print.proofs.put_commands.Goals as goal
 
-pub loop-i-init : goal.loop-i-init
-loop-i-init c = search (rules, command_ways)
-
-pub bounds-codes-i : goal.bounds-codes-i
-bounds-codes-i c = search (rules, command_ways)
-
-pub size_of_code-n-requires : goal.size_of_code-n-requires
-size_of_code-n-requires c = search (rules, command_ways)
-
-pub overflow_add-place : goal.overflow_add-place
-overflow_add-place c = search (rules, command_ways)
-
-pub offset_bounds-numbers-place : goal.offset_bounds-numbers-place
-offset_bounds-numbers-place c = search (rules, command_ways)
-
-pub slice_bounds-put_numbers_line-count : goal.slice_bounds-put_numbers_line-count
-slice_bounds-put_numbers_line-count c = search (rules, command_ways)
-
-pub slice_bounds-put_numbers_line-start : goal.slice_bounds-put_numbers_line-start
-slice_bounds-put_numbers_line-start c = search (rules, command_ways)
-
-pub slice_bounds-put_numbers_line-end : goal.slice_bounds-put_numbers_line-end
-slice_bounds-put_numbers_line-end c = search (rules, command_ways)
+pub split_at-requires : goal.split_at-requires
+split_at-requires c = search (rules, command_ways)
 
 pub put_numbers_line-at-requires : goal.put_numbers_line-at-requires
-put_numbers_line-at-requires c = search (rules, command_ways)
+put_numbers_line-at-requires c =
+    let own_is : c.split_at.result.0.now ≡ take c.size_of_code.result c.loop-code.rest.now = search rules in
+    let after_is : c.split_at.result.1.now ≡ drop c.size_of_code.result c.loop-code.rest.now = search rules in
+    printing_room _ _ _ _ _ _ _ c.loop-code.invariant c.loop-code-test.true _ c.size_of_code.ensures _ _ own_is after_is c.requires.codes_in_bounds_2
 
-pub overflow_add-place-in-loop-i : goal.overflow_add-place-in-loop-i
-overflow_add-place-in-loop-i c = search (rules, command_ways)
+pub loop-code-preserved : goal.loop-code-preserved
+loop-code-preserved c =
+    let own_is : c.split_at.result.0.now ≡ take c.size_of_code.result c.loop-code.rest.now = search rules in
+    let after_is : c.split_at.result.1.now ≡ drop c.size_of_code.result c.loop-code.rest.now = search rules in
+    let put = c.put_numbers_line-at.ensures in
+    printing_turn _ _ _ _ _ _ _ c.loop-code.invariant c.loop-code-test.true _ c.size_of_code.ensures _ _ own_is after_is _ _ put.value put.out_after
 
-pub overflow_add-i : goal.overflow_add-i
-overflow_add-i c = search (rules, command_ways)
+pub returns-clause-value : goal.returns-clause-value
+returns-clause-value c = search (rules, command_ways)
 
-pub loop-i-smaller : goal.loop-i-smaller
-loop-i-smaller c = search (rules, command_ways)
-
-pub loop-i-preserved : goal.loop-i-preserved
-loop-i-preserved c = search (rules, printing_turn)
-
-pub shape_of-out : goal.shape_of-out
-shape_of-out c = search (rules, command_ways)
-
-pub returns : goal.returns
-returns c = record { value = search (rules, command_ways); out_after = search (rules, command_ways) }
+pub returns-clause-out_after : goal.returns-clause-out_after
+returns-clause-out_after c = search (rules, command_ways)

@@ -12,8 +12,8 @@ put_columns-end-requires c = search (rules, line_ways)
 pub put_newline-requires : goal.put_newline-requires
 put_newline-requires c = search (rules, line_ways)
 
-pub shape_of-out : goal.shape_of-out
-shape_of-out c = search (rules, line_ways)
+pub returns-clause-value : goal.returns-clause-value
+returns-clause-value c = search (rules, line_ways)
 
-pub returns : goal.returns
-returns c = record { value = search (rules, line_ways); out_after = search (rules, line_ways) }
+pub returns-clause-out_after : goal.returns-clause-out_after
+returns-clause-out_after c = search (rules, line_ways)
