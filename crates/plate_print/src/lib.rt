@@ -106,7 +106,7 @@ pub fn print_refusal(refusal: Refusal, out: &mut [u8]) -> usize
     ensures value { result ≡ length (refusal_text refusal) }
     ensures out_after { out.new ≡ onto (refusal_text refusal) out.old }
 {
-    put_line(out, 0, 8, command::refusal_number(refusal))
+    put_line(out, 0, 8, u32::from(refusal))
 }
 
 // A line for each command from the start of a buffer, and the place after them.
