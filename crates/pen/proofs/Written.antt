@@ -54,6 +54,14 @@ module _ (all cs ds : List PathCommand) (is : all ≡ cs ++ ds) (p q : Pen) wher
     numbers_are = rw (numbers_append cs ds, sets_append (numbers_of cs) (numbers_of ds) p.numbers.now p.at.numbers) (rw (v.numbers_are, v.numbers_at) at w.numbers_are);
   })
 
+-- ---- a list of commands by another name
+module _ (cs ds : List PathCommand) (is : cs ≡ ds) (p : Pen) where
+  pub same_room : HasRoom cs p → HasRoom ds p
+  same_room h = rw is at h
+
+  pub same_wrote : (q : Pen) → Wrote ds p q → Wrote cs p q
+  same_wrote q w = rw is w
+
 -- ---- commands one after another, of which k are written
 module _ (cs : List PathCommand) (k : ℕ) (p q : Pen) (w : Wrote (take k cs) p q) where
   module _ (d : PathCommand) (h : k < length cs) where

@@ -94,11 +94,3 @@ module _ (vertex : ℕ → BezierVertex) (count : ℕ) (first : BezierVertex) (f
               closed_wrote t y =
                   wrote_both (path_along closed vertex count) (begin ∷ segments) (c ∷ Close ∷ []) is p r t both
                   (wrote_both (c ∷ Close ∷ []) (c ∷ []) (Close ∷ []) refl r s t x y)
-
--- the flag is a number
-module _ (closed count : ℕ) (v : List Float) (p : Pen) where
-  pub commands_room : HasRoom (path_commands closed v count) p → HasRoom (path_along (eqb closed 1) (vertex_at v) count) p
-  commands_room h = rw commands_along at h
-
-  pub commands_wrote : (q : Pen) → Wrote (path_along (eqb closed 1) (vertex_at v) count) p q → Wrote (path_commands closed v count) p q
-  commands_wrote q h = rw commands_along h

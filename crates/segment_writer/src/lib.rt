@@ -2,9 +2,7 @@
 // the next one. The first is kept, as the end of the segment that closes the path.
 #![tactic(auto)]
 
-ghost use Rattle.std.specs.Prelude.{◌≡◌, cond, [], ◌∷◌, ◌+◌, ◌-◌, ◌<◌, ◌≤◌, length};
-ghost use Rattle.std.proofs.lemmas.List.Edits.{sets};
-ghost use Rattle.command.specs.Commands.{codes_of, numbers_of};
+ghost use Rattle.std.specs.Prelude.{◌≡◌, cond, [], ◌∷◌, ◌-◌, ◌<◌};
 ghost use Rattle.path.specs.Path.{bezier_segment, path_commands, Sound};
 ghost use Rattle.path.specs.Between.{path_along, segments_along};
 ghost use Rattle.pen.specs.Pens.{HasRoom, Wrote};
@@ -83,33 +81,15 @@ pub fn write_outline<O: Outline>(closed: bool, outline: &O, pen: &mut Pen)
     }
 }
 
-// Writes the path of the first `count` vertices at places of buffers that it fits, and gives the places after it.
-pub fn write_path(
-    closed: u32,
-    vertices: &[f32],
-    count: usize,
-    codes: &mut [u8],
-    i: usize,
-    numbers: &mut [f32],
-    j: usize,
-) -> Size
+// Writes the path of the first `count` vertices.
+pub fn write_path(closed: u32, vertices: &[f32], count: usize, pen: &mut Pen)
     requires sound { Sound vertices.now count }
-    requires count_in_bounds { i + length (codes_of (path_commands closed vertices.now count)) ≤ length codes.old }
-    requires count_in_bounds_2 { j + length (numbers_of (path_commands closed vertices.now count)) ≤ length numbers.old }
-    ensures codes_value { result.codes ≡ i + length (codes_of (path_commands closed vertices.now count)) }
-    ensures numbers_value { result.numbers ≡ j + length (numbers_of (path_commands closed vertices.now count)) }
-    ensures codes_after { codes.new ≡ sets codes.old i (codes_of (path_commands closed vertices.now count)) }
-    ensures numbers_after { numbers.new ≡ sets numbers.old j (numbers_of (path_commands closed vertices.now count)) }
+    requires room { HasRoom (path_commands closed vertices.now count) pen.old }
+    ensures { Wrote (path_commands closed vertices.now count) pen.old pen.new }
 {
     let outline = Vertices {
         numbers: vertices,
         count: count,
     };
-    let at = Size {
-        codes: i,
-        numbers: j,
-    };
-    let mut pen = Pen { codes, numbers, at };
-    write_outline(closed == 1, &outline, &mut pen);
-    pen.at
+    write_outline(closed == 1, &outline, pen);
 }

@@ -14,12 +14,6 @@ module _ (star : Polystar) where
   unfolding path_along polystar_path
   path_is = refl
 
-  pub star_room : (p : Pen) → HasRoom (polystar_path star) p → HasRoom (path_along true (point_at star) star.count) p
-  star_room p h = rw path_is h
-
-  pub star_wrote : (p q : Pen) → Wrote (path_along true (point_at star) star.count) p q → Wrote (polystar_path star) p q
-  star_wrote p q w = rw path_is at w
-
   -- no segment is passed over
   pub none_passed : Sound star → Passed (point_at star) star.count 0
   none_passed sound = record { inside = omega (arith, sound.some); same = omega arith }

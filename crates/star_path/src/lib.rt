@@ -1,13 +1,12 @@
 // Writes the path of a polystar, and counts its numbers.
 #![tactic(auto)]
 
-ghost use Rattle.std.specs.Prelude.{◌≡◌, ◌+◌, ◌≤◌, length};
-ghost use Rattle.std.proofs.lemmas.List.Edits.{sets};
-ghost use Rattle.command.specs.Commands.{codes_of, numbers_of};
+ghost use Rattle.std.specs.Prelude.{◌≡◌, length};
+ghost use Rattle.command.specs.Commands.{numbers_of};
+ghost use Rattle.pen.specs.Pens.{HasRoom, Wrote};
 ghost use Rattle.polystar.specs.Polystar.{point_at, polystar_path, Sound};
 ghost use Rattle.star_path.specs.Points.{some_points};
 
-use command::Size;
 use path::{BezierVertex, Outline};
 use pen::Pen;
 use polystar::Polystar;
@@ -37,23 +36,13 @@ impl Outline for Points {
     }
 }
 
-// Writes the path at places of buffers that it fits, and gives the places after it.
-pub fn write_star(star: Polystar, codes: &mut [u8], i: usize, numbers: &mut [f32], j: usize) -> Size
+// Writes the path.
+pub fn write_star(star: Polystar, pen: &mut Pen)
     requires sound { Sound star }
-    requires star_in_bounds { i + length (codes_of (polystar_path star)) ≤ length codes.old }
-    requires star_in_bounds_2 { j + length (numbers_of (polystar_path star)) ≤ length numbers.old }
-    ensures codes_value { result.codes ≡ i + length (codes_of (polystar_path star)) }
-    ensures numbers_value { result.numbers ≡ j + length (numbers_of (polystar_path star)) }
-    ensures codes_after { codes.new ≡ sets codes.old i (codes_of (polystar_path star)) }
-    ensures numbers_after { numbers.new ≡ sets numbers.old j (numbers_of (polystar_path star)) }
+    requires room { HasRoom (polystar_path star) pen.old }
+    ensures { Wrote (polystar_path star) pen.old pen.new }
 {
-    let at = Size {
-        codes: i,
-        numbers: j,
-    };
-    let mut pen = Pen { codes, numbers, at };
-    segment_writer::write_outline(true, &Points { star }, &mut pen);
-    pen.at
+    segment_writer::write_outline(true, &Points { star }, pen);
 }
 
 // How many numbers the path has.
