@@ -32,7 +32,7 @@ impl Outline for Points {
     }
 
     fn vertex(&self, k: usize) -> BezierVertex {
-        polystar::point_at(self.star, k)
+        self.star.point_at(k)
     }
 }
 

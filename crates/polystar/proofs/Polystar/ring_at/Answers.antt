@@ -1,7 +1,7 @@
--- `polystar::ring_at` meets its contract. Assumes nothing.
+-- `polystar::Polystar::ring_at` meets its contract. Assumes nothing.
 use borrow.Author.Rules.{rules}
 use Rattle.polystar.proofs.Ways.{rings}
-use Rattle.polystar.proofs.ring_at.Goals as goal
+use Rattle.polystar.proofs.Polystar.ring_at.Goals as goal
 
 pub returns-then-k-eq0 : goal.returns-then-k-eq0
 returns-then-k-eq0 c = search (rules, rings)
