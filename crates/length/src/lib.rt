@@ -46,7 +46,7 @@ fn is_there(until: Until, pen: Pen) -> bool
 pub fn walk(codes: &[u8], numbers: &[f32], until: Until) -> Walked
     ensures { walked_of result ≡ walk_from until start_pen 0 codes.now numbers.now }
 {
-    let mut pen = measure::start();
+    let mut pen = Pen::start();
     let mut i: usize = 0;
     let mut place: usize = 0;
     while !is_there(until, pen) {
@@ -61,7 +61,7 @@ pub fn walk(codes: &[u8], numbers: &[f32], until: Until) -> Walked
                 return Walked::Refused(refusal);
             }
             Read::Command(command, next) => {
-                pen = measure::step(pen, command);
+                pen = pen.step(command);
                 place = next;
             }
         }

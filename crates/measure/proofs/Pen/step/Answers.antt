@@ -1,7 +1,7 @@
--- `measure::step` meets its contract. Assumes nothing.
-use Rattle.measure.proofs.Ways.{ways}
+-- `measure::Pen::step` meets its contract. Assumes nothing.
 use borrow.Author.Rules.{rules}
-use Rattle.measure.proofs.step.Goals as goal
+use Rattle.measure.proofs.Ways.{ways}
+use Rattle.measure.proofs.Pen.step.Goals as goal
 
 pub returns-in-Move : goal.returns-in-Move
 returns-in-Move c = search (rules, ways)
