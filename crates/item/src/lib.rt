@@ -108,7 +108,7 @@ pub struct ItemRow {
     // 1 for hidden and 0 for visible: a number, since a row with any other is read too, and then judged.
     pub hidden: u32,
     pub depth: u32,
-    // The closed flag of a path, or the mode of a merge.
+    // The closed flag of a path, or the mode of a merge: a number, since any may be lent, and the kind tells which are listed.
     pub mark: u32,
     // Where its numbers start.
     pub place: usize,
