@@ -130,7 +130,7 @@ pub fn print_refusal(refusal: Refusal, out: &mut [u8]) -> usize
     ensures out_after { out.new ≡ onto (refusal_text refusal) out.old }
 {
     let mut text = Text { out, at: 0 };
-    text.put_line(8, command::refusal_number(refusal));
+    text.put_line(8, u32::from(refusal));
     text.at
 }
 
