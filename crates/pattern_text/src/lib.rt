@@ -1,12 +1,14 @@
-// The lines of a text and the bit patterns of numbers in them, as the vectors programs read and print them.
-// A line of theirs is a word of at most eight letters and numbers of eight hexadecimal digits, one blank before each.
+// Calls in a text, as the vectors programs read them, and what they print of answers.
+// A line is a word and numbers of eight hexadecimal digits, with one blank before each.
 #![tactic(auto)]
 
-ghost use Rattle.std.specs.Prelude.{◌<◌, ◌≤◌, length, IfOk};
+ghost use Rattle.std.specs.Prelude.{◌≤◌, length, IfOk};
 
-use command::{Counts, Refusal};
-use std::io;
-use std::io::{Read, Write};
+use command::{Outcome, Refusal, Size};
+use std::alloc::Global;
+use std::io::{BufRead, BufReader, Read, Write};
+use std::num::f32_from_bits_with_nan;
+use std::{fmt, io};
 
 // Reads until the buffer is full or the input ends, and gives how many bytes it put at the buffer's start.
 pub fn read_full(input: &mut impl Read, text: &mut [u8]) -> io::Result<usize>
@@ -23,249 +25,158 @@ pub fn read_full(input: &mut impl Read, text: &mut [u8]) -> io::Result<usize>
     Ok(done)
 }
 
-// How many line ends a byte is.
-fn line_ends(b: u8) -> usize
-    ensures { result ≤ 1 }
-{
-    if b == b'\n' { 1 } else { 0 }
+// A call that a line asks for: the word, and the numbers after it.
+#[derive(Clone, Copy)]
+pub struct Call<'a> {
+    pub word: &'a str,
+    pub patterns: &'a [u32],
 }
 
-// How many lines of a text have their line end.
-pub fn line_count(text: &[u8]) -> usize {
-    let mut count = 0;
-    for i in 0..text.len() {
-        count += line_ends(text[i]);
+impl Call<'_> {
+    // The number at a place, and 0 past the last one.
+    pub fn field(&self, place: usize) -> u32 {
+        self.patterns.get(place).copied().unwrap_or(0)
     }
-    count
-}
 
-// Where line k of a text starts, and the text's length where it has fewer lines.
-fn line_start(text: &[u8], k: usize) -> usize
-    ensures { result ≤ length text.now }
-{
-    let mut left = k;
-    for i in 0..text.len() {
-        if left == 0 {
-            return i;
+    pub fn size(&self, place: usize) -> usize {
+        self.field(place) as usize
+    }
+
+    // The number without all but its last eight bits.
+    pub fn byte(&self, place: usize) -> u8 {
+        low_byte(self.field(place))
+    }
+
+    // The float whose pattern stands at a place.
+    pub fn float(&self, place: usize) -> f32 {
+        f32_from_bits_with_nan(self.field(place))
+    }
+
+    // How many places are lent of a buffer that has so many.
+    pub fn lent(&self, place: usize, most: usize) -> usize
+        ensures { result ≤ most }
+    {
+        self.size(place).min(most)
+    }
+
+    // The numbers from a place on.
+    pub fn after(&self, place: usize) -> &[u32] {
+        &self.patterns[place.min(self.patterns.len())..]
+    }
+
+    // Fills a list with the floats from a place on, over and over.
+    pub fn fill(&self, place: usize, list: &mut [f32]) {
+        fill_floats(list, self.after(place));
+    }
+
+    // Fills the codes and the numbers of a path. At the place stands how many codes are given, and the numbers follow them.
+    pub fn fill_path(&self, place: usize, codes: &mut [u8], numbers: &mut [f32]) {
+        let given = self.after(place);
+        if let Some((count, rest)) = given.split_first() {
+            let (code_patterns, floats) = rest.split_at(rest.len().min(*count as usize));
+            fill_codes(codes, code_patterns);
+            fill_floats(numbers, floats);
         }
-        left -= line_ends(text[i]);
     }
-    text.len()
 }
 
-// Where the first line end from `start` on stands, and the text's length where there is none.
-fn line_end(text: &[u8], start: usize) -> usize
-    requires { start ≤ length text.now }
-    ensures { (start ≤ result) × (result ≤ length text.now) }
-{
-    for i in start..text.len() {
-        if text[i] == b'\n' {
-            return i;
+fn low_byte(pattern: u32) -> u8 {
+    (pattern % 256) as u8
+}
+
+fn fill_floats(list: &mut [f32], patterns: &[u32]) {
+    for (x, pattern) in list.iter_mut().zip(patterns.iter().cycle()) {
+        *x = f32_from_bits_with_nan(*pattern);
+    }
+}
+
+fn fill_codes(codes: &mut [u8], patterns: &[u32]) {
+    for (code, pattern) in codes.iter_mut().zip(patterns.iter().cycle()) {
+        *code = low_byte(*pattern);
+    }
+}
+
+// A float as its pattern, or `nan`.
+#[derive(Clone, Copy)]
+pub struct Bits(pub f32);
+
+impl fmt::Display for Bits {
+    fn fmt<W: fmt::Write>(&self, f: &mut fmt::Formatter<W>) -> fmt::Result {
+        if self.0.is_nan() {
+            f.write_str("nan")
+        } else {
+            write!(f, "{:08x}", self.0.to_bits())
         }
     }
-    text.len()
 }
 
-// Line k of a text, counted from 0, without its line end.
-pub fn line<'a>(text: &'a [u8], k: usize) -> &'a [u8] {
-    let start = line_start(text, k);
-    let end = line_end(text, start);
-    &text[start..end]
-}
-
-// The pattern that the eight hexadecimal digits from `at` on are.
-pub fn pattern(line: &[u8], at: usize) -> u32
-    requires { at < 1000000 }
+// Answers each line of the input.
+pub fn run<I: Read + Drop, W: Write, F: FnMut(&mut W, &str, Call<'_>) -> io::Result<()>>(
+    alloc: Global,
+    input: I,
+    out: &mut W,
+    mut answer: F,
+) -> io::Result<()>
+    requires { F.IsAlwaysCallable answer }
 {
-    let mut pattern = 0;
-    for i in at..at + 8 {
-        pattern = shifted(pattern, digit(byte(line, i)));
-    }
-    pattern
-}
-
-// A pattern with one more hexadecimal digit at its end, and its first dropped.
-fn shifted(pattern: u32, digit: u32) -> u32 {
-    pattern % 0x1000_0000 * 16 + digit % 16
-}
-
-fn digit(b: u8) -> u32 {
-    if b >= b'a' {
-        (b - b'a') as u32 + 10
-    } else if b >= b'0' {
-        (b - b'0') as u32
-    } else {
-        0
-    }
-}
-
-// The byte at `i`, and 0 past the line's end.
-pub fn byte(line: &[u8], i: usize) -> u8 {
-    if i < line.len() { line[i] } else { 0 }
-}
-
-// Whether a line asks what a call needs. Then `need-` stands before the line of the call.
-pub fn is_need(line: &[u8]) -> bool {
-    byte(line, 0) == b'n'
-}
-
-// The line of the call whose need a line asks for.
-pub fn needing<'a>(line: &'a [u8]) -> &'a [u8] {
-    if line.len() < 5 {
-        return line;
-    }
-    &line[5..]
-}
-
-pub fn number(pattern: u32) -> f32 {
-    if pattern % 0x8000_0000 <= 0x7f80_0000 {
-        f32::from_bits(pattern)
-    } else {
-        nan()
-    }
-}
-
-pub fn nan() -> f32 {
-    0.0 / 0.0
-}
-
-// The line's number at a place, in the order of the line.
-pub fn field(line: &[u8], place: usize) -> u32
-    requires { place < 10000 }
-{
-    pattern(line, line.len() % 9 + 9 * place + 1)
-}
-
-// How many numbers a line has from a place on.
-fn given(line: &[u8], first: usize) -> usize {
-    let fields = line.len() / 9;
-    if first < fields { fields - first } else { 0 }
-}
-
-// The remainder of i by n, and 0 where that is none or beyond what a line may have.
-fn cyclic(i: usize, n: usize) -> usize
-    ensures { result < 1000 }
-{
-    if n == 0 {
-        return 0;
-    }
-    let r = i % n;
-    if r < 1000 { r } else { 0 }
-}
-
-// Fills a list with the numbers of a line from a place on, over and over.
-pub fn fill(list: &mut [f32], line: &[u8], first: usize)
-    requires { first < 1000 }
-{
-    let n = given(line, first);
-    for i in 0..list.len() {
-        list[i] = number(field(line, first + cyclic(i, n)));
-    }
-}
-
-pub fn low_byte(x: u32) -> u8 {
-    (x % 256) as u8
-}
-
-// Fills a list of codes with n numbers of a line from a place on, over and over.
-fn fill_codes(codes: &mut [u8], line: &[u8], first: usize, n: usize)
-    requires { first < 1000 }
-{
-    for i in 0..codes.len() {
-        codes[i] = low_byte(field(line, first + cyclic(i, n)));
-    }
-}
-
-// Fills the codes and the numbers of a path. At the place stands how many codes the line has, and the rest of the line follows.
-pub fn fill_path(codes: &mut [u8], numbers: &mut [f32], line: &[u8], place: usize)
-    requires { place < 90 }
-{
-    let given = lent(line, place, 900);
-    fill_codes(codes, line, place + 1, given);
-    fill(numbers, line, place + 1 + given);
-}
-
-pub fn size(x: u32) -> usize {
-    x as usize
-}
-
-// The line's number at a place, or the most where that is more.
-pub fn lent(line: &[u8], place: usize, most: usize) -> usize
-    requires { place < 10000 }
-    ensures { result ≤ most }
-{
-    let n = size(field(line, place));
-    if n < most { n } else { most }
-}
-
-pub fn wide(x: u32) -> u64 {
-    x as u64
-}
-
-// Writes the number's pattern, or `nan`.
-pub fn print(out: &mut impl Write, x: f32) -> io::Result<()> {
-    if x == x {
-        write!(out, "{:08x}", f32::to_bits(x))
-    } else {
-        write!(out, "nan")
-    }
-}
-
-// Writes the patterns of a list, with a blank before each.
-pub fn print_list(out: &mut impl Write, list: &[f32]) -> io::Result<()> {
-    for x in list {
-        write!(out, " ")?;
-        print(out, *x)?;
+    for line in BufReader::new(alloc, input)?.lines(alloc) {
+        let line = line?;
+        let mut words = line.split_ascii_whitespace();
+        let word = words.next().unwrap_or("");
+        let mut patterns = Vec::new(alloc);
+        for digits in words {
+            patterns.push(u32::from_str_radix(digits, 16).unwrap_or(0))?;
+        }
+        answer(
+            out,
+            line.as_str(),
+            Call {
+                word,
+                patterns: &patterns,
+            },
+        )?;
     }
     Ok(())
 }
 
-pub fn print_decimal(out: &mut impl Write, x: usize) -> io::Result<()> {
-    write!(out, "{x}")
-}
-
 pub fn print_refusal(out: &mut impl Write, refusal: Refusal) -> io::Result<()> {
-    let number = command::refusal_number(refusal);
-    writeln!(out, "refused {number}")
+    writeln!(out, "refused {}", u32::from(refusal))
 }
 
-// Writes what a buffer of codes holds, on a line.
-fn print_codes(out: &mut impl Write, codes: &[u8]) -> io::Result<()> {
-    write!(out, "codes")?;
+// Writes a word and the patterns of numbers on a line.
+pub fn print_floats(out: &mut impl Write, word: &str, list: &[f32]) -> io::Result<()> {
+    write!(out, "{word}")?;
+    for x in list {
+        write!(out, " {}", Bits(*x))?;
+    }
+    writeln!(out)
+}
+
+// Writes a word and the codes of a buffer on a line.
+fn print_codes(out: &mut impl Write, word: &str, codes: &[u8]) -> io::Result<()> {
+    write!(out, "{word}")?;
     for code in codes {
         write!(out, " {code:02x}")?;
     }
     writeln!(out)
 }
 
-// Writes what a buffer of numbers holds, on a line.
-fn print_numbers(out: &mut impl Write, numbers: &[f32]) -> io::Result<()> {
-    write!(out, "numbers")?;
-    print_list(out, numbers)?;
-    writeln!(out)
-}
-
-fn print_pair(out: &mut impl Write, word: &[u8], n: usize, m: usize) -> io::Result<()> {
-    out.write_all(word)?;
-    writeln!(out, "{n} {m}")
-}
-
-// Writes the answer of a call on a line, with a word before two counts.
-pub fn print_counts(out: &mut impl Write, word: &[u8], counts: Counts) -> io::Result<()> {
-    match counts {
-        Counts::Refused(refusal) => print_refusal(out, refusal),
-        Counts::Of(n, m) => print_pair(out, word, n, m),
+// Writes how many codes and numbers a call comes to on a line, with a word before them.
+pub fn print_size(out: &mut impl Write, word: &str, size: Outcome<Size>) -> io::Result<()> {
+    match size {
+        Err(refusal) => print_refusal(out, refusal),
+        Ok(size) => writeln!(out, "{word} {} {}", size.codes, size.numbers),
     }
 }
 
 // Writes the answer of a call that fills two buffers, and what they hold after it.
 pub fn print_drawn(
     out: &mut impl Write,
-    drawn: Counts,
+    drawn: Outcome<Size>,
     codes: &[u8],
     numbers: &[f32],
 ) -> io::Result<()> {
-    print_counts(out, b"written ", drawn)?;
-    print_codes(out, codes)?;
-    print_numbers(out, numbers)
+    print_size(out, "written", drawn)?;
+    print_codes(out, "codes", codes)?;
+    print_floats(out, "numbers", numbers)
 }
