@@ -2,7 +2,7 @@
 // A line is a word and numbers of eight hexadecimal digits, with one blank before each.
 #![tactic(auto)]
 
-ghost use Rattle.std.specs.Prelude.{◌≤◌, length, IfOk};
+ghost use Rattle.std.specs.Prelude.{◌≡◌, ◌%◌, ◌≤◌, length, get_or, drop, min, IfOk};
 
 use command::{Outcome, Refusal, Size};
 use std::alloc::Global;
@@ -34,16 +34,22 @@ pub struct Call<'a> {
 
 impl Call<'_> {
     // The number at a place, and 0 past the last one.
-    pub fn field(&self, place: usize) -> u32 {
+    pub fn field(&self, place: usize) -> u32
+        ensures { result ≡ get_or self.now.patterns.now place 0 }
+    {
         self.patterns.get(place).copied().unwrap_or(0)
     }
 
-    pub fn size(&self, place: usize) -> usize {
+    pub fn size(&self, place: usize) -> usize
+        ensures { result ≡ get_or self.now.patterns.now place 0 }
+    {
         self.field(place) as usize
     }
 
     // The number without all but its last eight bits.
-    pub fn byte(&self, place: usize) -> u8 {
+    pub fn byte(&self, place: usize) -> u8
+        ensures { result ≡ get_or self.now.patterns.now place 0 % 256 }
+    {
         low_byte(self.field(place))
     }
 
@@ -54,13 +60,15 @@ impl Call<'_> {
 
     // How many places are lent of a buffer that has so many.
     pub fn lent(&self, place: usize, most: usize) -> usize
-        ensures { result ≤ most }
+        ensures { result ≡ min (get_or self.now.patterns.now place 0) most }
     {
         self.size(place).min(most)
     }
 
     // The numbers from a place on.
-    pub fn after(&self, place: usize) -> &[u32] {
+    pub fn after(&self, place: usize) -> &[u32]
+        ensures { result.now ≡ drop place self.now.patterns.now }
+    {
         &self.patterns[place.min(self.patterns.len())..]
     }
 
@@ -80,7 +88,9 @@ impl Call<'_> {
     }
 }
 
-fn low_byte(pattern: u32) -> u8 {
+fn low_byte(pattern: u32) -> u8
+    ensures { result ≡ pattern % 256 }
+{
     (pattern % 256) as u8
 }
 

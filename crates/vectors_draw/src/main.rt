@@ -3,6 +3,8 @@
 // tools/draw_vectors.py makes the lines and says how they read.
 #![tactic(auto)]
 
+ghost use Rattle.std.specs.Prelude.{◌<◌};
+
 use command::{Outcome, Size};
 use pattern_text::Call;
 use std::io;
@@ -73,7 +75,10 @@ fn answer<W: Write>(out: &mut W, line: &str, call: Call<'_>) -> io::Result<()> {
 }
 
 fn main(rt: HostRuntime) -> io::Result<()> {
-    pattern_text::run(rt.alloc(), rt.stdin(), &mut rt.stdout(), |out, line, call| {
-        answer(out, line, call)
-    })
+    pattern_text::run(
+        rt.alloc(),
+        rt.stdin(),
+        &mut rt.stdout(),
+        |out, line, call| { answer(out, line, call) },
+    )
 }
