@@ -7,6 +7,7 @@ ghost use Rattle.curve.specs.Curve as spec;
 ghost use Rattle.curve.proofs.Rising.{Inside};
 ghost use Rattle.flatten.specs.Level.{Coordinates, QuadCoordinates};
 
+use curve::{Cubic, Quad};
 use point::Point;
 
 // Whether both coordinates of a point are within 2^22, the limit of command lists.
@@ -17,20 +18,25 @@ fn is_inside(p: Point) -> bool
 }
 
 // The point of a quadratic curve at step / 24.
-fn quad_point(start: Point, control: Point, end: Point, step: u16) -> Point
+fn quad_point(quad: Quad, step: u16) -> Point
     requires { (1 ≤ step) × (step ≤ 24) }
-    ensures { result ≡ spec.quad_point start control end step }
+    ensures { result ≡ spec.quad_point quad.start quad.control quad.end step }
 {
-    curve::eval_quad(start, control, end, step as f32 / 24.0)
+    quad.eval(step as f32 / 24.0)
 }
 
 // The same of a curve whose coordinates are of like size. At the eighths `mul_add` would meet midpoints, and exact sums need
 // no `mul_add`.
-fn level_quad_point(start: Point, control: Point, end: Point, step: u16) -> Point
+fn level_quad_point(quad: Quad, step: u16) -> Point
     requires step { (1 ≤ step) × (step ≤ 24) }
-    requires quad_coordinates { QuadCoordinates start.x control.x end.x × QuadCoordinates start.y control.y end.y }
-    ensures { result ≡ spec.quad_point start control end step }
+    requires coordinates { QuadCoordinates quad.start.x quad.control.x quad.end.x × QuadCoordinates quad.start.y quad.control.y quad.end.y }
+    ensures { result ≡ spec.quad_point quad.start quad.control quad.end step }
 {
+    let Quad {
+        start,
+        control,
+        end,
+    } = quad;
     match step {
         24 => end,
         _ if step % 3 == 0 => {
@@ -40,49 +46,59 @@ fn level_quad_point(start: Point, control: Point, end: Point, step: u16) -> Poin
                 y: flatten::quad_at(start.y, control.y, end.y, eighth),
             }
         }
-        _ => quad_point(start, control, end, step),
+        _ => quad_point(quad, step),
     }
 }
 
 // The length of a quadratic curve whose coordinates are of like size.
-fn level_quad(start: Point, control: Point, end: Point) -> f32
-    requires quad_coordinates { QuadCoordinates start.x control.x end.x × QuadCoordinates start.y control.y end.y }
-    requires inside { Inside (2 ^ 22) start × Inside (2 ^ 22) control × Inside (2 ^ 22) end }
-    ensures { result ≡ spec.quad_length start control end }
+fn level_quad(quad: Quad) -> f32
+    requires coordinates { QuadCoordinates quad.start.x quad.control.x quad.end.x × QuadCoordinates quad.start.y quad.control.y quad.end.y }
+    requires inside { Inside (2 ^ 22) quad.start × Inside (2 ^ 22) quad.control × Inside (2 ^ 22) quad.end }
+    ensures { result ≡ spec.quad_length quad.start quad.control quad.end }
 {
-    polyline::length(start, 24, |step| {
-        level_quad_point(start, control, end, step)
-    })
+    polyline::length(quad.start, 24, |step| level_quad_point(quad, step))
 }
 
 // The length of a quadratic curve whose points are finite.
-fn inside_quad(start: Point, control: Point, end: Point) -> f32
-    requires { Inside (2 ^ 22) start × Inside (2 ^ 22) control × Inside (2 ^ 22) end }
-    ensures { result ≡ spec.quad_length start control end }
+fn inside_quad(quad: Quad) -> f32
+    requires { Inside (2 ^ 22) quad.start × Inside (2 ^ 22) quad.control × Inside (2 ^ 22) quad.end }
+    ensures { result ≡ spec.quad_length quad.start quad.control quad.end }
 {
-    polyline::length(start, 24, |step| { quad_point(start, control, end, step) })
+    polyline::length(quad.start, 24, |step| quad_point(quad, step))
 }
 
 // The length of a quadratic curve, by 24 chords.
-pub fn quad_length(start: Point, control: Point, end: Point) -> f32
-    ensures { result ≡ spec.quad_length start control end }
+pub fn quad_length(quad: Quad) -> f32
+    ensures { result ≡ spec.quad_length quad.start quad.control quad.end }
 {
+    let Quad {
+        start,
+        control,
+        end,
+    } = quad;
     let numbers: [f32; 6] = [start.x, start.y, control.x, control.y, end.x, end.y];
     if flatten::is_level(&numbers) {
-        return level_quad(start, control, end);
+        return level_quad(quad);
     }
     if is_inside(start) && is_inside(control) && is_inside(end) {
-        return inside_quad(start, control, end);
+        return inside_quad(quad);
     }
-    curve::quad_length(start, control, end)
+    quad.length()
 }
 
 // The point at step / 32 of a cubic curve whose coordinates are of like size.
-fn level_cubic_point(start: Point, control1: Point, control2: Point, end: Point, step: u16) -> Point
+fn level_cubic_point(cubic: Cubic, step: u16) -> Point
     requires step { (1 ≤ step) × (step ≤ 32) }
-    requires coordinates { Coordinates start.x control1.x control2.x end.x × Coordinates start.y control1.y control2.y end.y }
-    ensures { result ≡ spec.cubic_point start control1 control2 end step }
+    requires coordinates { Coordinates cubic.start.x cubic.control1.x cubic.control2.x cubic.end.x
+        × Coordinates cubic.start.y cubic.control1.y cubic.control2.y cubic.end.y }
+    ensures { result ≡ spec.cubic_point cubic.start cubic.control1 cubic.control2 cubic.end step }
 {
+    let Cubic {
+        start,
+        control1,
+        control2,
+        end,
+    } = cubic;
     match step {
         32 => end,
         _ => {
@@ -96,25 +112,30 @@ fn level_cubic_point(start: Point, control1: Point, control2: Point, end: Point,
 }
 
 // The length of a cubic curve whose coordinates are of like size.
-fn level_cubic(start: Point, control1: Point, control2: Point, end: Point) -> f32
-    requires coordinates { Coordinates start.x control1.x control2.x end.x × Coordinates start.y control1.y control2.y end.y }
-    requires inside { Inside (2 ^ 22) start × Inside (2 ^ 22) control1 × Inside (2 ^ 22) control2 × Inside (2 ^ 22) end }
-    ensures { result ≡ spec.cubic_length start control1 control2 end }
+fn level_cubic(cubic: Cubic) -> f32
+    requires coordinates { Coordinates cubic.start.x cubic.control1.x cubic.control2.x cubic.end.x
+        × Coordinates cubic.start.y cubic.control1.y cubic.control2.y cubic.end.y }
+    requires inside { Inside (2 ^ 22) cubic.start × Inside (2 ^ 22) cubic.control1 × Inside (2 ^ 22) cubic.control2 × Inside (2 ^ 22) cubic.end }
+    ensures { result ≡ spec.cubic_length cubic.start cubic.control1 cubic.control2 cubic.end }
 {
-    polyline::length(start, 32, |step| {
-        level_cubic_point(start, control1, control2, end, step)
-    })
+    polyline::length(cubic.start, 32, |step| level_cubic_point(cubic, step))
 }
 
 // The length of a cubic curve, by 32 chords.
-pub fn cubic_length(start: Point, control1: Point, control2: Point, end: Point) -> f32
-    ensures { result ≡ spec.cubic_length start control1 control2 end }
+pub fn cubic_length(cubic: Cubic) -> f32
+    ensures { result ≡ spec.cubic_length cubic.start cubic.control1 cubic.control2 cubic.end }
 {
+    let Cubic {
+        start,
+        control1,
+        control2,
+        end,
+    } = cubic;
     let numbers: [f32; 8] = [
         start.x, start.y, control1.x, control1.y, control2.x, control2.y, end.x, end.y,
     ];
     if flatten::is_level(&numbers) {
-        return level_cubic(start, control1, control2, end);
+        return level_cubic(cubic);
     }
-    curve::cubic_length(start, control1, control2, end)
+    cubic.length()
 }

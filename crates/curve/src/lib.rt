@@ -10,47 +10,13 @@ ghost use Rattle.curve.specs.Steps.{Follows};
 use point::Point;
 
 // How far one point is from another.
+#[tactic(auto, using(crate::proofs::Ways::distance_is))]
 pub fn distance(a: Point, b: Point) -> f32
     ensures { result ≡ spec.distance a b }
 {
     let dx = b.x - a.x;
     let dy = b.y - a.y;
     root::hypot(dx, dy)
-}
-
-// The point of a quadratic curve at t.
-pub fn eval_quad(start: Point, control: Point, end: Point, t: f32) -> Point
-    ensures { result ≡ spec.eval_quad start control end t }
-{
-    let u = 1.0 - t;
-    let of_start = u * u;
-    let of_control = 2.0 * u * t;
-    let of_end = t * t;
-    let x1 = fused::mul_add(of_start, start.x, of_control * control.x);
-    let y1 = fused::mul_add(of_start, start.y, of_control * control.y);
-    Point {
-        x: fused::mul_add(of_end, end.x, x1),
-        y: fused::mul_add(of_end, end.y, y1),
-    }
-}
-
-// The point of a cubic curve at t.
-pub fn eval_cubic(start: Point, control1: Point, control2: Point, end: Point, t: f32) -> Point
-    ensures { result ≡ spec.eval_cubic start control1 control2 end t }
-{
-    let u = 1.0 - t;
-    let of_start = u * (u * u);
-    let of_control1 = 3.0 * (u * u) * t;
-    let of_control2 = 3.0 * u * (t * t);
-    let of_end = t * (t * t);
-    let x1 = fused::mul_add(of_start, start.x, of_control1 * control1.x);
-    let y1 = fused::mul_add(of_start, start.y, of_control1 * control1.y);
-    let x2 = fused::mul_add(of_control2, control2.x, x1);
-    let y2 = fused::mul_add(of_control2, control2.y, y1);
-    Point {
-        x: fused::mul_add(of_end, end.x, x2),
-        y: fused::mul_add(of_end, end.y, y2),
-    }
 }
 
 // The length of so many chords from `start` on, each to the point of its step.
@@ -68,20 +34,85 @@ fn by_chords<F: Fn(u16) -> Point>(start: Point, steps: u16, point: F) -> f32
     length
 }
 
-// The length of a quadratic curve, by 24 chords.
-pub fn quad_length(start: Point, control: Point, end: Point) -> f32
-    ensures { result ≡ spec.quad_length start control end }
-{
-    by_chords(start, 24, |step| {
-        eval_quad(start, control, end, step as f32 / 24.0)
-    })
+// A quadratic curve.
+#[derive(Clone, Copy)]
+pub struct Quad {
+    pub start: Point,
+    pub control: Point,
+    pub end: Point,
 }
 
-// The length of a cubic curve, by 32 chords.
-pub fn cubic_length(start: Point, control1: Point, control2: Point, end: Point) -> f32
-    ensures { result ≡ spec.cubic_length start control1 control2 end }
-{
-    by_chords(start, 32, |step| {
-        eval_cubic(start, control1, control2, end, step as f32 / 32.0)
-    })
+impl Quad {
+    // The point at t.
+    #[tactic(auto, using(crate::proofs::Ways::quad_is))]
+    pub fn eval(self, t: f32) -> Point
+        ensures { result ≡ spec.eval_quad self.start self.control self.end t }
+    {
+        let Quad {
+            start,
+            control,
+            end,
+        } = self;
+        let u = 1.0 - t;
+        let of_start = u * u;
+        let of_control = 2.0 * u * t;
+        let of_end = t * t;
+        let x1 = fused::mul_add(of_start, start.x, of_control * control.x);
+        let y1 = fused::mul_add(of_start, start.y, of_control * control.y);
+        Point {
+            x: fused::mul_add(of_end, end.x, x1),
+            y: fused::mul_add(of_end, end.y, y1),
+        }
+    }
+
+    // The length, by 24 chords.
+    pub fn length(self) -> f32
+        ensures { result ≡ spec.quad_length self.start self.control self.end }
+    {
+        by_chords(self.start, 24, |step| self.eval(step as f32 / 24.0))
+    }
+}
+
+// A cubic curve.
+#[derive(Clone, Copy)]
+pub struct Cubic {
+    pub start: Point,
+    pub control1: Point,
+    pub control2: Point,
+    pub end: Point,
+}
+
+impl Cubic {
+    // The point at t.
+    #[tactic(auto, using(crate::proofs::Ways::cubic_is))]
+    pub fn eval(self, t: f32) -> Point
+        ensures { result ≡ spec.eval_cubic self.start self.control1 self.control2 self.end t }
+    {
+        let Cubic {
+            start,
+            control1,
+            control2,
+            end,
+        } = self;
+        let u = 1.0 - t;
+        let of_start = u * (u * u);
+        let of_control1 = 3.0 * (u * u) * t;
+        let of_control2 = 3.0 * u * (t * t);
+        let of_end = t * (t * t);
+        let x1 = fused::mul_add(of_start, start.x, of_control1 * control1.x);
+        let y1 = fused::mul_add(of_start, start.y, of_control1 * control1.y);
+        let x2 = fused::mul_add(of_control2, control2.x, x1);
+        let y2 = fused::mul_add(of_control2, control2.y, y1);
+        Point {
+            x: fused::mul_add(of_end, end.x, x2),
+            y: fused::mul_add(of_end, end.y, y2),
+        }
+    }
+
+    // The length, by 32 chords.
+    pub fn length(self) -> f32
+        ensures { result ≡ spec.cubic_length self.start self.control1 self.control2 self.end }
+    {
+        by_chords(self.start, 32, |step| self.eval(step as f32 / 32.0))
+    }
 }

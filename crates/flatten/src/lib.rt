@@ -43,7 +43,8 @@ pub fn cubic_at(a: f32, b: f32, c: f32, d: f32, step: u32) -> f32
     weighted(w0, w1, w2, w3, a as f64, b as f64, c as f64, d as f64)
 }
 
-// The weighted sum of three coordinates, rounded as that of four.
+// The weighted sum of three coordinates, rounded as that of four. A part for both would have to promise sums in binary64,
+// which is longer than the sums.
 fn weighted_quad(w0: f64, w1: f64, w2: f64, a: f64, b: f64, c: f64) -> f32
     requires { QuadWeights w0 w1 w2 × QuadCoordinates a b c }
     ensures { result ≡ fma binary32 w2 c (fma binary32 w0 a (mul binary32 w1 b)) }

@@ -7,6 +7,7 @@ ghost use Rattle.measure.specs.Segment.{Measures};
 ghost use Rattle.measure.specs.Length as spec;
 
 use command::PathCommand;
+use curve::{Cubic, Quad};
 use point::Point;
 
 // What is known after some commands: the length so far, the last point, and where the contour
@@ -63,19 +64,32 @@ impl Pen {
     fn line_to(self, next: Point) -> Pen
         ensures { result ≡ spec.line_to self next }
     {
-        self.segment_to(next, |p| curve::distance(p, next))
+        self.segment_to(next, |start| curve::distance(start, next))
     }
 
     fn quad_to(self, control: Point, next: Point) -> Pen
         ensures { result ≡ spec.quad_to self control next }
     {
-        self.segment_to(next, |p| arc::quad_length(p, control, next))
+        self.segment_to(next, |start| {
+            arc::quad_length(Quad {
+                start,
+                control,
+                end: next,
+            })
+        })
     }
 
     fn cubic_to(self, control1: Point, control2: Point, next: Point) -> Pen
         ensures { result ≡ spec.cubic_to self control1 control2 next }
     {
-        self.segment_to(next, |p| arc::cubic_length(p, control1, control2, next))
+        self.segment_to(next, |start| {
+            arc::cubic_length(Cubic {
+                start,
+                control1,
+                control2,
+                end: next,
+            })
+        })
     }
 
     // Back to where the contour started.

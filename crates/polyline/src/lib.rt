@@ -36,7 +36,8 @@ fn between(a: Point, b: Point) -> f32
     quick(a, b).unwrap_or_else(|| curve::distance(a, b))
 }
 
-// The length of so many chords from `start` on, each to the point of its step, where the points are finite.
+// The length of so many chords from `start` on, each to the point of its step, where the points are finite. `curve` has the
+// same loop for any points: one for both would need a promise about pairs of points that is longer than the loop.
 pub fn length<F: Fn(u16) -> Point>(start: Point, steps: u16, point: F) -> f32
     requires callable { (k : ℕ) → 1 ≤ k → k ≤ steps → F.pre point k }
     requires first { IsFinite start }

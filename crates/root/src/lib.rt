@@ -79,7 +79,8 @@ fn heron(n: f64, d: f64) -> f64 {
     0.5 * d + n * (0.5 / d)
 }
 
-// The sum of the squares in binary64, where each square is exact and the sum is rounded. There is none where x or y is a NaN.
+// The sum of the squares in binary64, where each square is exact and the sum is rounded. There is none where x or y is a NaN,
+// which alone differs from itself: the library has no other test of a float for it.
 #[tactic(auto, using(ieee::proofs::Wide::widens))]
 fn squares(x: f32, y: f32) -> Option<f64>
     ensures { IfSome result (λ n. n ≡ add binary64 (mul binary64 x x) (mul binary64 y y)) }

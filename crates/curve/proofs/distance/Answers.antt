@@ -1,7 +1,0 @@
--- `curve::distance` meets its contract. Assumes nothing.
-use Rattle.curve.proofs.Ways.{ways}
-use borrow.Author.Rules.{rules}
-use Rattle.curve.proofs.distance.Goals as goal
-
-pub returns : goal.returns
-returns c = search (rules, ways)
