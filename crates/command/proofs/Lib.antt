@@ -3,8 +3,6 @@ pub mod Outcomes
 pub mod Verdicts
 pub mod Buffers
 pub mod Lists
-pub mod Writes
 pub mod Enlarged
 pub mod Bounds
 pub mod Each
-pub mod Ways

@@ -1,12 +1,12 @@
 -- Laws of lists of commands: how many codes and numbers they have, one list after another, and the commands from a place on. Assumes nothing.
 use mathlib.Core.Path.{◌≡◌, refl, sym, ap, ◌∙◌}
 use mathlib.Core.List.{List, [], ◌∷◌, ◌++◌, append_assoc}
-use Prim.Native.Nat.{ℕ, zero, suc, ◌+◌, ◌-◌, ◌*◌, ◌≤◌, ◌<◌, zero-le}
+use Prim.Native.Nat.{ℕ, suc, ◌+◌, ◌*◌, ◌≤◌, ◌<◌, zero-le}
 use native.Mathlib.Numerals.{add-one}
 use native.Mathlib.Omega.{arith}
 use lib.Ieee.{Float}
 use lib.ListN.{length, get_or, drop, length-append}
-use lib.Seq.{drop-cons, get_or-drop}
+use lib.Seq.{drop-cons}
 use Rattle.command.specs.declared.PathCommand.{PathCommand}
 use Rattle.command.specs.declared.PathCommand.TheVariants.{Move, Line, Cubic, Close, Quad}
 use Rattle.command.specs.Commands.{code_of, coordinates_of, codes_of, numbers_of}
@@ -49,16 +49,3 @@ module _ (cs : List PathCommand) where
 
   pub split : (k : ℕ) → k < length cs → length (numbers_of (drop k cs)) ≡ length (coordinates_of (at_place k)) + length (numbers_of (drop (k + 1) cs))
   split k h = ap (λ (l : List PathCommand). length (numbers_of l)) (rest k h) ∙ length-append (coordinates_of (at_place k)) (numbers_of (drop (k + 1) cs))
-
--- the command at a place whose number is known
-pub at_known : (l : List PathCommand) (n k : ℕ) (r : PathCommand) → k ≡ n → r ≡ get_or l n Close → r ≡ get_or l k Close
-at_known l n k r h e = rw h e
-
--- a list that ends with its only close has a close at each place from there on, by the default too
-pub closes : (l : List PathCommand) (n k : ℕ) → drop n l ≡ Close ∷ [] → n ≤ k → get_or l k Close ≡ Close
-closes l n k e h =
-    ap (λ (i : ℕ). get_or l i Close) (omega arith) ∙ sym (get_or-drop n l (k - n) Close) ∙ ap (λ (r : List PathCommand). get_or r (k - n) Close) e ∙ only (k - n)
-  where
-    only : (i : ℕ) → get_or (Close ∷ []) i Close ≡ Close
-    only zero = refl
-    only (suc i) = refl

@@ -91,41 +91,15 @@ pub fn code(command: PathCommand) -> u8
     }
 }
 
-// Two numbers at a place, and the place after them.
-pub fn put_pair(numbers: &mut [f32], at: usize, x: f32, y: f32) -> usize
-    requires { at + 2 ≤ length numbers.old }
-    ensures { (result ≡ at + 2) × (numbers.new ≡ sets numbers.old at (x ∷ y ∷ [])) }
+// Numbers at a place, and the place after them.
+pub fn put<const N: usize>(numbers: &mut [f32], at: usize, values: [f32; N]) -> usize
+    requires { at + N ≤ length numbers.old }
+    ensures { (result ≡ at + N) × (numbers.new ≡ sets numbers.old at values.entry) }
 {
-    numbers[at] = x;
-    numbers[at + 1] = y;
-    at + 2
-}
-
-// Four numbers at a place, and the place after them.
-pub fn put_four(numbers: &mut [f32], at: usize, ax: f32, ay: f32, x: f32, y: f32) -> usize
-    requires { at + 4 ≤ length numbers.old }
-    ensures { (result ≡ at + 4) × (numbers.new ≡ sets numbers.old at (ax ∷ ay ∷ x ∷ y ∷ [])) }
-{
-    let next = put_pair(numbers, at, ax, ay);
-    put_pair(numbers, next, x, y)
-}
-
-// Six numbers at a place, and the place after them.
-pub fn put_six(
-    numbers: &mut [f32],
-    at: usize,
-    ax: f32,
-    ay: f32,
-    bx: f32,
-    by: f32,
-    x: f32,
-    y: f32,
-) -> usize
-    requires { at + 6 ≤ length numbers.old }
-    ensures { (result ≡ at + 6) × (numbers.new ≡ sets numbers.old at (ax ∷ ay ∷ bx ∷ by ∷ x ∷ y ∷ [])) }
-{
-    let next = put_four(numbers, at, ax, ay, bx, by);
-    put_pair(numbers, next, x, y)
+    for k in 0..N {
+        numbers[at + k] = values[k];
+    }
+    at + N
 }
 
 // A command's numbers at a place, and the place after them.
@@ -134,10 +108,9 @@ pub fn put_numbers(command: PathCommand, numbers: &mut [f32], at: usize) -> usiz
     ensures { (result ≡ at + length (coordinates_of command)) × (numbers.new ≡ sets numbers.old at (coordinates_of command)) }
 {
     match command {
-        PathCommand::Move(x, y) => put_pair(numbers, at, x, y),
-        PathCommand::Line(x, y) => put_pair(numbers, at, x, y),
-        PathCommand::Cubic(ax, ay, bx, by, x, y) => put_six(numbers, at, ax, ay, bx, by, x, y),
+        PathCommand::Move(x, y) | PathCommand::Line(x, y) => put(numbers, at, [x, y]),
+        PathCommand::Cubic(ax, ay, bx, by, x, y) => put(numbers, at, [ax, ay, bx, by, x, y]),
         PathCommand::Close => at,
-        PathCommand::Quad(ax, ay, x, y) => put_four(numbers, at, ax, ay, x, y),
+        PathCommand::Quad(ax, ay, x, y) => put(numbers, at, [ax, ay, x, y]),
     }
 }

@@ -103,10 +103,10 @@ pub fn put_ranges(ranges: Ranges, buffer: &mut [f32])
     match ranges {
         Ranges::Nothing => {}
         Ranges::One(start, end) => {
-            command::put_pair(buffer, 0, start, end);
+            command::put(buffer, 0, [start, end]);
         }
         Ranges::Two(start, end) => {
-            command::put_four(buffer, 0, start, 1.0, 0.0, end);
+            command::put(buffer, 0, [start, 1.0, 0.0, end]);
         }
     }
 }
@@ -117,7 +117,7 @@ fn put_cut(cuts: Cuts, buffer: &mut [f32], at: usize)
     requires { at + 3 ≤ length buffer.old }
     ensures { buffer.new ≡ sets buffer.old at (cut_numbers cuts) }
 {
-    let last = command::put_pair(buffer, at, cuts.before, cuts.visible);
+    let last = command::put(buffer, at, [cuts.before, cuts.visible]);
     buffer[last] = cuts.after;
 }
 

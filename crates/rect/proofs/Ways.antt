@@ -1,17 +1,15 @@
 -- What each way out of a function of this crate owes, as the code meets it. Assumes nothing.
-use mathlib.Core.Path.{◌≡◌, refl, sym}
+use mathlib.Core.Path.{◌≡◌}
 use mathlib.Core.Bool.{Bool, true, false, cond}
-use Prim.Native.Nat.{ℕ, suc, ◌≤◌}
+use Prim.Native.Nat.{◌≤◌}
 use native.Mathlib.Omega.{arith}
-use lib.ListN.{length, get_or}
+use lib.ListN.{length}
 use lib.Ieee.{Float, le, neg, binary32}
 use Rattle.ieee.specs.Literal.{zero32}
 use Rattle.ieee.specs.Operators.{◌⊕◌, ◌⊗◌}
 use Rattle.ieee.specs.Sign.{abs}
 use Rattle.ieee.specs.Choice.{min, clamp}
 use Rattle.ieee.specs.Fused.{fma}
-use Rattle.command.specs.declared.PathCommand.TheVariants.{Close}
-use Rattle.command.proofs.Lists.{at_known, closes}
 use Rattle.command.specs.Commands.{numbers_of}
 use Rattle.rect.specs.declared.Bounds.{Bounds}
 use Rattle.rect.specs.Bounds.{half, near_side, rect_bounds}

@@ -27,18 +27,12 @@ fn put_followed(a: BezierVertex, b: BezierVertex, pen: &mut Pen)
 {
     let line = a.is_line_to(b);
     let at = pen.at.numbers;
-    command::put_four(
-        pen.numbers,
-        at,
-        a.x + a.ox,
-        a.y + a.oy,
-        b.x + b.ix,
-        b.y + b.iy,
-    );
+    let ahead = [a.x + a.ox, a.y + a.oy, b.x + b.ix, b.y + b.iy];
+    command::put(pen.numbers, at, ahead);
     pen.codes[pen.at.codes] = segment_code(line);
     pen.at = Size {
         codes: pen.at.codes + 1,
-        numbers: command::put_pair(pen.numbers, path::end_place(line, at), b.x, b.y),
+        numbers: command::put(pen.numbers, path::end_place(line, at), [b.x, b.y]),
     };
 }
 
