@@ -259,14 +259,14 @@ shift_20 : transform_answer plate.repeater 2 ≡ Ok (one32 ∷ zero32 ∷ zero32
 unfolding of_bits all_within lt le of_int add sub mul div fma concat pre_translate pre_scale pre_rotate sixteenths_in sixteenths_of reduced turn_of
     repeater.copy_count repeater.step_scale repeater.step_part repeater.step_matrix repeater.step_transform repeater.steps
     repeater.iteration_transform repeater.copy_transform repeater.opacity_of repeater.copy_opacity
-    has_too_many repeater_checks copy_numbers all_finite copy_answer transform_answer
+    has_too_many repeater_checks copy_numbers copy_answer transform_answer
 shift_20 = refl
 
 shift_80 : transform_answer larger.repeater 2 ≡ Ok (one32 ∷ zero32 ∷ zero32 ∷ one32 ∷ of_bits binary32 0x42a0_0000 ∷ zero32 ∷ zero32 ∷ [])
 unfolding enlarge of_bits all_within lt le of_int add sub mul div fma concat pre_translate pre_scale pre_rotate sixteenths_in sixteenths_of reduced turn_of
     repeater.copy_count repeater.step_scale repeater.step_part repeater.step_matrix repeater.step_transform repeater.steps
     repeater.iteration_transform repeater.copy_transform repeater.opacity_of repeater.copy_opacity
-    has_too_many repeater_checks copy_numbers all_finite copy_answer transform_answer
+    has_too_many repeater_checks copy_numbers copy_answer transform_answer
 shift_80 = refl
 
 -- the factors are the f32 2, 4, 8, 16, 32 and 64

@@ -41,7 +41,7 @@ unfolding sub mul div le of_int of_bits min max clamp fma rem_euclid hypot_of is
     concat pre_translate pre_scale pre_rotate sixteenths_in sixteenths_of reduced turn_of
     repeater.copy_count repeater.step_scale repeater.step_part repeater.step_matrix repeater.step_transform
     repeater.steps repeater.iteration_transform repeater.copy_transform repeater.opacity_of repeater.copy_opacity
-    rising falling order_of copy_order has_too_many repeater_checks order_answer copy_numbers all_finite copy_answer transform_answer
+    rising falling order_of copy_order has_too_many repeater_checks order_answer copy_numbers copy_answer transform_answer
 all_answered = refl
 
 -- numerator / denominator, and its negative, to the nearest f32
