@@ -127,7 +127,7 @@ pub fn copy_order(repeater: RepeaterStyle, order: &mut [u32]) -> Outcome<usize>
         (number_of result) (value_or 0 result) order.old order.new }
 {
     check_repeater(repeater)?;
-    let n = repeater::copy_count(repeater);
+    let n = repeater.copy_count();
     write_order(repeater.mode, n as usize, order)
 }
 
@@ -164,11 +164,11 @@ fn write_sound(repeater: RepeaterStyle, copy: usize, matrix: &mut [f32]) -> Outc
         (number_of result) (value_or 0 result) matrix.old matrix.new }
 {
     let k = copy as u64;
-    if k >= repeater::copy_count(repeater) {
+    if k >= repeater.copy_count() {
         return Err(Refusal::NoSuchCopy);
     }
-    let m = repeater::copy_transform(repeater, k);
-    let opacity = repeater::copy_opacity(repeater, k);
+    let m = repeater.copy_transform(k);
+    let opacity = repeater.copy_opacity(k);
     write_copy(&[m.a, m.b, m.c, m.d, m.e, m.f, opacity], matrix)
 }
 

@@ -36,6 +36,7 @@ fn leading_digit(n: u32) -> u8
 }
 
 // A number in the columns before the last one, from the right.
+// By index, since of a slice that is written through `iter_mut().rev()` a proof knows only the length.
 fn put_leading(out: &mut [u8], at: usize, width: usize, value: u32)
     requires { at + width ≤ length out.old }
     ensures { out.new ≡ sets out.old at (leading width value) }
@@ -98,7 +99,7 @@ impl Text<'_> {
         self.put_newline();
     }
 
-    // A line of a code and one number.
+    // A line of a code and one number, which is no float: a function of three lines, and no plainer with a closure for the bits.
     fn put_line(&mut self, code: u32, value: u32)
         requires { HasRoom self.old 14 }
         ensures { Appended self.old self.new (line code (value ∷ [])) }

@@ -94,7 +94,7 @@ fn read_lines(lines: &[u8], closed: u32, numbers: &mut [f32; 1536]) -> Result<Re
 }
 
 // Reads a text, and writes the six numbers of each vertex from the start of `vertices`.
-// A refusal writes nothing.
+// A refusal writes nothing. A vertex is six numbers of one flat list, as C hands vertices over.
 pub fn read(text: &[u8], vertices: &mut [f32; 1536]) -> Result<Reading, Refusal>
     ensures value { result ≡ reading_of (read_text text.now) }
     ensures vertices_after { vertices.new ≡ onto (numbers_given (read_text text.now)) vertices.old }

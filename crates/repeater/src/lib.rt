@@ -80,23 +80,6 @@ fn step_matrix(shift: Point, anchor: Point, degrees: f32, scale: Point) -> Matri
         .pre_translate(back)
 }
 
-// A part of a step, or of the inverse step.
-#[tactic(auto, unfolding(crate::specs::Repeater::step_transform))]
-fn step_transform(repeater: RepeaterStyle, part: StepPart) -> Matrix
-    requires { within number_limit (spec.step_part repeater.rotation part.percent part.inverse) ≡ true }
-    ensures { result ≡ spec.step_transform repeater part.percent part.inverse }
-{
-    let shift = Point {
-        x: part.of(repeater.position.x),
-        y: part.of(repeater.position.y),
-    };
-    let scale = Point {
-        x: part.of_scale(repeater.scale.x),
-        y: part.of_scale(repeater.scale.y),
-    };
-    step_matrix(shift, repeater.anchor, part.of(repeater.rotation), scale)
-}
-
 // So many steps, one after another.
 fn plain_steps(n: u64, step: Matrix) -> Matrix
     ensures { result ≡ spec.steps n step }
@@ -151,41 +134,6 @@ fn steps(n: u64, step: Matrix) -> Matrix
     plain_steps(n, step)
 }
 
-// So many steps and a part of one. At most 2^-23 in absolute value is none.
-fn iteration_transform(repeater: RepeaterStyle, iteration: f32) -> Matrix
-    requires { (within count_limit iteration ≡ true) × (within number_limit repeater.rotation ≡ true) }
-    ensures { result ≡ spec.iteration_transform repeater iteration }
-{
-    if float::is_within(iteration, f32::EPSILON) {
-        return Matrix::identity();
-    }
-    let inverse = iteration < 0.0;
-    let magnitude = float::abs(iteration);
-    let whole = count::count_down(magnitude);
-    let percent = magnitude - whole::from_whole(false, whole);
-    let step = step_transform(
-        repeater,
-        StepPart {
-            percent: 1.0,
-            inverse,
-        },
-    );
-    let transform = steps(whole, step);
-    if percent > f32::EPSILON {
-        transform.concat(step_transform(repeater, StepPart { percent, inverse }))
-    } else {
-        transform
-    }
-}
-
-// The matrix of one copy.
-pub fn copy_transform(repeater: RepeaterStyle, copy: u64) -> Matrix
-    requires { (within spec.most_offset repeater.offset ≡ true) × (within number_limit repeater.rotation ≡ true) × (copy ≤ 4096) }
-    ensures { result ≡ spec.copy_transform repeater copy }
-{
-    iteration_transform(repeater, repeater.offset + whole::from_whole(false, copy))
-}
-
 // The opacity of one copy of so many.
 #[tactic(auto, unfolding(crate::specs::Repeater::opacity_of))]
 fn opacity_of(start: f32, end: f32, count: u64, copy: u64) -> f32
@@ -200,24 +148,75 @@ fn opacity_of(start: f32, end: f32, count: u64, copy: u64) -> f32
     }
 }
 
-// How many copies there are.
-#[tactic(auto, unfolding(crate::specs::Repeater::copy_count))]
-pub fn copy_count(repeater: RepeaterStyle) -> u64
-    requires { within count_limit repeater.copies ≡ true }
-    ensures { (result ≡ spec.copy_count repeater) × (result ≤ 2 ^ 24) }
-{
-    count::count_up(repeater.copies)
-}
+impl RepeaterStyle {
+    // A part of a step, or of the inverse step.
+    #[tactic(auto, unfolding(crate::specs::Repeater::step_transform))]
+    fn step_transform(self, part: StepPart) -> Matrix
+        requires { within number_limit (spec.step_part self.rotation part.percent part.inverse) ≡ true }
+        ensures { result ≡ spec.step_transform self part.percent part.inverse }
+    {
+        let shift = Point {
+            x: part.of(self.position.x),
+            y: part.of(self.position.y),
+        };
+        let scale = Point {
+            x: part.of_scale(self.scale.x),
+            y: part.of_scale(self.scale.y),
+        };
+        step_matrix(shift, self.anchor, part.of(self.rotation), scale)
+    }
 
-#[tactic(auto, unfolding(crate::specs::Repeater::copy_opacity))]
-pub fn copy_opacity(repeater: RepeaterStyle, copy: u64) -> f32
-    requires { (within count_limit repeater.copies ≡ true) × (copy ≤ 2 ^ 24) }
-    ensures { result ≡ spec.copy_opacity repeater copy }
-{
-    opacity_of(
-        repeater.start_opacity,
-        repeater.end_opacity,
-        copy_count(repeater),
-        copy,
-    )
+    // So many steps and a part of one. At most 2^-23 in absolute value is none.
+    fn iteration_transform(self, iteration: f32) -> Matrix
+        requires { (within count_limit iteration ≡ true) × (within number_limit self.rotation ≡ true) }
+        ensures { result ≡ spec.iteration_transform self iteration }
+    {
+        if float::is_within(iteration, f32::EPSILON) {
+            return Matrix::identity();
+        }
+        let inverse = iteration < 0.0;
+        let magnitude = float::abs(iteration);
+        let whole = count::count_down(magnitude);
+        let percent = magnitude - whole::from_whole(false, whole);
+        let step = self.step_transform(StepPart {
+            percent: 1.0,
+            inverse,
+        });
+        let transform = steps(whole, step);
+        if percent > f32::EPSILON {
+            transform.concat(self.step_transform(StepPart { percent, inverse }))
+        } else {
+            transform
+        }
+    }
+
+    // The matrix of one copy.
+    pub fn copy_transform(self, copy: u64) -> Matrix
+        requires { (within spec.most_offset self.offset ≡ true) × (within number_limit self.rotation ≡ true) × (copy ≤ 4096) }
+        ensures { result ≡ spec.copy_transform self copy }
+    {
+        self.iteration_transform(self.offset + whole::from_whole(false, copy))
+    }
+
+    // How many copies there are.
+    #[tactic(auto, unfolding(crate::specs::Repeater::copy_count))]
+    pub fn copy_count(self) -> u64
+        requires { within count_limit self.copies ≡ true }
+        ensures { (result ≡ spec.copy_count self) × (result ≤ 2 ^ 24) }
+    {
+        count::count_up(self.copies)
+    }
+
+    #[tactic(auto, unfolding(crate::specs::Repeater::copy_opacity))]
+    pub fn copy_opacity(self, copy: u64) -> f32
+        requires { (within count_limit self.copies ≡ true) × (copy ≤ 2 ^ 24) }
+        ensures { result ≡ spec.copy_opacity self copy }
+    {
+        opacity_of(
+            self.start_opacity,
+            self.end_opacity,
+            self.copy_count(),
+            copy,
+        )
+    }
 }

@@ -1,7 +1,7 @@
--- `repeater::copy_transform` meets its contract. Assumes nothing.
+-- `repeater::RepeaterStyle::copy_transform` meets its contract. Assumes nothing.
 use borrow.Author.Rules.{rules}
 use Rattle.repeater.proofs.Ways.{copying}
-use Rattle.repeater.proofs.copy_transform.Goals as goal
+use Rattle.repeater.proofs.RepeaterStyle.copy_transform.Goals as goal
 
 pub iteration_transform-requires : goal.iteration_transform-requires
 iteration_transform-requires c = search (rules, copying)

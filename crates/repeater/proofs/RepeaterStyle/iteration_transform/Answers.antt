@@ -1,7 +1,7 @@
--- `repeater::iteration_transform` meets its contract. Assumes nothing.
+-- `repeater::RepeaterStyle::iteration_transform` meets its contract. Assumes nothing.
 use borrow.Author.Rules.{rules}
 use Rattle.repeater.proofs.Ways.{iterating}
-use Rattle.repeater.proofs.iteration_transform.Goals as goal
+use Rattle.repeater.proofs.RepeaterStyle.iteration_transform.Goals as goal
 
 pub returns-then-is_within : goal.returns-then-is_within
 returns-then-is_within c = search (rules, iterating)
