@@ -60,7 +60,8 @@ impl Call<'_> {
 
     // How many places are lent of a buffer that has so many.
     pub fn lent(&self, place: usize, most: usize) -> usize
-        ensures { result ≡ min (get_or self.now.patterns.now place 0) most }
+        ensures value { result ≡ min (get_or self.now.patterns.now place 0) most }
+        ensures within { result ≤ most }
     {
         self.size(place).min(most)
     }
