@@ -1,18 +1,12 @@
 -- What each way out of a function of this crate owes, as the code meets it. Assumes nothing.
 use mathlib.Core.Path.{◌≡◌, ap₂}
-use Prim.Native.Nat.{ℕ, ◌+◌, ◌<◌}
-use native.Mathlib.Omega.{arith}
-use mir.Val.{Fits}
-use mir.Syntax.{w16}
 use lib.Ieee.{Float, binary32}
-use borrow.Author.Count.{falls}
 use Rattle.ieee.specs.Literal.{one32}
 use Rattle.ieee.specs.Fused.{fma}
 use Rattle.ieee.specs.Root.{hypot_of}
 use Rattle.point.specs.declared.Point.{Point}
 use Rattle.ieee.specs.Operators.{◌⊖◌, ◌⊗◌}
 use Rattle.curve.specs.Curve.{two32, three32, squared, cubed, distance, quad_at, eval_quad, cubic_at, eval_cubic}
-use Rattle.curve.proofs.Chords.{chordwise}
 
 pub distance_is : (a b : Point) (r : Float) → r ≡ hypot_of binary32 (b.x ⊖ a.x) (b.y ⊖ a.y) → r ≡ distance a b
 unfolding distance
@@ -57,11 +51,4 @@ cubic_is start control1 control2 end t x1 x2 x y1 y2 y a b c d e f =
     (cubic_at_lem start.x control1.x control2.x end.x t x1 x2 x a c e)
     (cubic_at_lem start.y control1.y control2.y end.y t y1 y2 y b d f)
 
--- ---- the loops
-pub quad_step_fits : (n : ℕ) → n < 24 → Fits w16 (n + 1)
-quad_step_fits n h = record { fits = omega arith }
-
-pub cubic_step_fits : (n : ℕ) → n < 32 → Fits w16 (n + 1)
-cubic_step_fits n h = record { fits = omega arith }
-
-pub ruleset ways = (distance_is, quad_is, cubic_is, quad_step_fits, cubic_step_fits, falls, chordwise)
+pub ruleset ways = (distance_is, quad_is, cubic_is)

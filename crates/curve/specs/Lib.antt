@@ -1,2 +1,3 @@
 -- Curves and their lengths.
 pub mod Curve
+pub mod Steps

@@ -2,8 +2,10 @@
 // drawing_paths.rs.
 #![tactic(auto)]
 
-ghost use Rattle.std.specs.Prelude.{◌≡◌};
+ghost use Rattle.std.specs.Prelude.{◌≡◌, ℕ};
+ghost use Rattle.point.specs.declared.Point.{Point};
 ghost use Rattle.curve.specs.Curve as spec;
+ghost use Rattle.curve.specs.Steps.{Follows};
 
 use point::Point;
 
@@ -51,34 +53,35 @@ pub fn eval_cubic(start: Point, control1: Point, control2: Point, end: Point, t:
     }
 }
 
+// The length of so many chords from `start` on, each to the point of its step.
+fn by_chords<F: Fn(u16) -> Point>(start: Point, steps: u16, point: F) -> f32
+    requires { F.IsAlwaysCallable point }
+    ensures { (p : ℕ → Point) → Follows (F.post point) steps p → start ≡ p 0 → result ≡ spec.chords p steps }
+{
+    let mut length: f32 = 0.0;
+    let mut last = start;
+    for step in 0..steps {
+        let next = point(step + 1);
+        length += distance(last, next);
+        last = next;
+    }
+    length
+}
+
 // The length of a quadratic curve, by 24 chords.
 pub fn quad_length(start: Point, control: Point, end: Point) -> f32
     ensures { result ≡ spec.quad_length start control end }
 {
-    let mut length: f32 = 0.0;
-    let mut previous = start;
-    let mut step: u16 = 0;
-    while step < 24 {
-        step += 1;
-        let point = eval_quad(start, control, end, step as f32 / 24.0);
-        length += distance(previous, point);
-        previous = point;
-    }
-    length
+    by_chords(start, 24, |step| {
+        eval_quad(start, control, end, step as f32 / 24.0)
+    })
 }
 
 // The length of a cubic curve, by 32 chords.
 pub fn cubic_length(start: Point, control1: Point, control2: Point, end: Point) -> f32
     ensures { result ≡ spec.cubic_length start control1 control2 end }
 {
-    let mut length: f32 = 0.0;
-    let mut previous = start;
-    let mut step: u16 = 0;
-    while step < 32 {
-        step += 1;
-        let point = eval_cubic(start, control1, control2, end, step as f32 / 32.0);
-        length += distance(previous, point);
-        previous = point;
-    }
-    length
+    by_chords(start, 32, |step| {
+        eval_cubic(start, control1, control2, end, step as f32 / 32.0)
+    })
 }

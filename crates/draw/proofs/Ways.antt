@@ -8,15 +8,14 @@ use mathlib.Core.List.{List, [], ◌∷◌}
 use Prim.Native.Nat.{ℕ, ◌+◌, ◌-◌, ◌*◌, ◌≤◌, ◌<◌}
 use native.Mathlib.Nat.{le_refl}
 use native.Mathlib.Omega.{arith}
-use lib.Dec.{eqb, leb}
 use lib.Ieee.{Float, nan}
 use lib.ListN.{length, get_or, take, drop, length-drop}
 use lib.Seq.{length-take-le, take_all, get_or-drop}
-use borrow.Author.Tests.{eq-eqb, ne_eqb, eqb-false, lt-ltb, le-ltb, ltb-false}
+use borrow.Author.Tests.{eqb-false, lt-ltb, le-ltb, ltb-false}
 use Rattle.ieee.specs.Limit.{all_within}
 use Rattle.command.specs.declared.PathCommand.{PathCommand}
 use Rattle.command.specs.declared.Refusal.{Refusal}
-use Rattle.command.specs.declared.Refusal.TheVariants.{Empty, TooMany, OutOfRange, Unlisted, Unsupported, OutOfBounds}
+use Rattle.command.specs.declared.Refusal.TheVariants.{Empty, TooMany, OutOfRange, Unsupported, OutOfBounds}
 use Rattle.command.specs.Refusals.{refusal_number}
 use Rattle.command.specs.Outcomes.{Outcome, ◌gives◌, checked, number_of}
 use Rattle.command.specs.Buffers.{in_buffers, fitted, FilledBoth, codes_told, numbers_told}
@@ -26,14 +25,15 @@ use Rattle.rect.specs.Rect.{corner_radius}
 use Rattle.shape.specs.declared.Shape.{Shape}
 use Rattle.shape.specs.declared.Shape.TheVariants.{Path, Rect, Ellipse}
 use Rattle.shape.specs.Shape.{shape_commands, Fit}
+use Rattle.item.specs.declared.Kind.TheVariants as Kind
 use Rattle.item.specs.declared.ItemRow.{ItemRow}
-use Rattle.item.specs.Rows.{item_row, is_listed, entries_of}
+use Rattle.item.specs.Rows.{item_row, entries_of}
 use Rattle.path.specs.Path.{path_commands}
 use Rattle.item.proofs.Entries.{entries_path, entries_rect, entries_ellipse}
 use Rattle.draw.specs.Checks.{coordinate_limit, outcome_of, Ready}
 use Rattle.draw.specs.Paths.{path_checks, draw_path}
 use Rattle.draw.proofs.Sources.{SourcePassed, source_passed, path_passed}
-use Rattle.draw.specs.Items.{is_drawable, is_held_back, has_no_vertices, item_shape, source_checks, shape_drawn, draw_source, item_checks, draw_item}
+use Rattle.draw.specs.Items.{is_held_back, has_no_vertices, item_shape, source_checks, shape_drawn, draw_source, item_checks, draw_item}
 
 -- ---- check_path and draw_path
 module _ (closed : ℕ) (v : List Float) (count : ℕ) where
@@ -64,56 +64,47 @@ taken v n h = sym (length-take-le n v h)
 pub ruleset path_drawings = (path_ready, path_refused, path_drawn_whole)
 
 -- ---- shape_of
-module _ (row : ItemRow) where
-  module _ (items : List Float) (some : has_no_vertices row ≡ false) (few : row.count ≤ 1024) (inside : row.place + entries_of row ≤ length items) where
-    abbrev from : List Float
-    from = drop row.place items
+module _ (row : ItemRow) (items : List Float) (some : has_no_vertices row ≡ false) (few : row.count ≤ 1024) (inside : row.place + entries_of row ≤ length items) where
+  abbrev from : List Float
+  from = drop row.place items
 
-    module _ (h : row.kind ≡ 1) where
-      pub shape_path : outcome_of (Ok (row.place, (Path row.mark row.count))) items ≡ shape_drawn row from
-      unfolding shape_drawn item_shape outcome_of
-      shape_path = rw (eq-eqb row.kind 1 h)
+  module _ (h : row.kind ≡ Kind.Path) where
+    pub shape_path : outcome_of (Ok (row.place, (Path row.mark row.count))) items ≡ shape_drawn row from
+    unfolding shape_drawn item_shape outcome_of
+    shape_path = rw h
 
-      pub path_fits : Ready (Ok (row.place, (Path row.mark row.count))) items
-      path_fits =
-          let is = entries_path row (eq-eqb row.kind 1 h) in
-          let one : row.count ≡ 0 → ⊥ = eqb-false row.count 0 (rw (eq-eqb row.kind 1 h) at some) in
-          (omega arith, record { some = omega arith; few = few; inside = rw length-drop (omega arith) })
+    pub path_fits : Ready (Ok (row.place, (Path row.mark row.count))) items
+    path_fits =
+        let is : entries_of row ≡ 6 * row.count = entries_path row (rw h) in
+        let one : row.count ≡ 0 → ⊥ = eqb-false row.count 0 (rw h at some) in
+        (omega arith, record { some = omega arith; few = few; inside = rw length-drop (omega arith) })
 
-    module _ (h : row.kind ≡ 2) where
-      a : row.kind ≡ 1 → ⊥
-      a z = omega arith
+  module _ (h : row.kind ≡ Kind.Rect) where
+    five : entries_of row ≡ 5
+    five = entries_rect row (rw h) (rw h)
 
-      five : entries_of row ≡ 5
-      five = entries_rect row (ne_eqb row.kind 1 a) (eq-eqb row.kind 2 h)
+    pub five_inside : (j : ℕ) → j < 5 → row.place + j < length items
+    five_inside j g = omega (arith, five)
 
-      pub five_inside : (j : ℕ) → j < 5 → row.place + j < length items
-      five_inside j g = omega (arith, five)
+    pub shape_rect : (radius : Float)
+        → radius ≡ corner_radius (get_or items (row.place + 2) nan) (get_or items (row.place + 3) nan) (get_or items (row.place + 4) nan)
+        → outcome_of (Ok (row.place, (Rect radius))) items ≡ shape_drawn row from
+    unfolding shape_drawn item_shape outcome_of
+    shape_rect radius e =
+        rw (h, e, get_or-drop row.place items 2 nan, get_or-drop row.place items 3 nan, get_or-drop row.place items 4 nan)
 
-      pub shape_rect : (radius : Float)
-          → radius ≡ corner_radius (get_or items (row.place + 2) nan) (get_or items (row.place + 3) nan) (get_or items (row.place + 4) nan)
-          → outcome_of (Ok (row.place, (Rect radius))) items ≡ shape_drawn row from
-      unfolding shape_drawn item_shape outcome_of
-      shape_rect radius e =
-          rw (ne_eqb row.kind 1 a, eq-eqb row.kind 2 h, e, get_or-drop row.place items 2 nan, get_or-drop row.place items 3 nan, get_or-drop row.place items 4 nan)
+    pub rect_fits : (radius : Float) → Ready (Ok (row.place, (Rect radius))) items
+    rect_fits radius = (omega arith, rw length-drop (omega (arith, five)))
 
-      pub rect_fits : (radius : Float) → Ready (Ok (row.place, (Rect radius))) items
-      rect_fits radius = (omega arith, rw length-drop (omega (arith, five)))
+  module _ (h : row.kind ≡ Kind.Ellipse) where
+    pub shape_ellipse : outcome_of (Ok (row.place, Ellipse)) items ≡ shape_drawn row from
+    unfolding shape_drawn item_shape outcome_of
+    shape_ellipse = rw h
 
-    module _ (a : row.kind ≡ 1 → ⊥) (b : row.kind ≡ 2 → ⊥) where
-      module _ (h : row.kind ≡ 3) where
-        pub shape_ellipse : outcome_of (Ok (row.place, Ellipse)) items ≡ shape_drawn row from
-        unfolding shape_drawn item_shape outcome_of
-        shape_ellipse = rw (ne_eqb row.kind 1 a, ne_eqb row.kind 2 b, eq-eqb row.kind 3 h)
-
-        pub ellipse_fits : Ready (Ok (row.place, Ellipse)) items
-        ellipse_fits =
-            let four = entries_ellipse row (ne_eqb row.kind 1 a) (ne_eqb row.kind 2 b) (eq-eqb row.kind 3 h) in
-            (omega arith, rw length-drop (omega arith))
-
-      pub shape_none : (row.kind ≡ 3 → ⊥) → outcome_of (Err Unsupported) items ≡ shape_drawn row from
-      unfolding shape_drawn item_shape outcome_of
-      shape_none c = rw (ne_eqb row.kind 1 a, ne_eqb row.kind 2 b, ne_eqb row.kind 3 c)
+    pub ellipse_fits : Ready (Ok (row.place, Ellipse)) items
+    ellipse_fits =
+        let four : entries_of row ≡ 4 = entries_ellipse row (rw h) (rw h) (rw h) in
+        (omega arith, rw length-drop (omega arith))
 
 pub ruleset kinds = (
   shape_path,
@@ -123,7 +114,6 @@ pub ruleset kinds = (
   rect_fits,
   shape_ellipse,
   ellipse_fits,
-  shape_none,
 )
 
 -- ---- check_source

@@ -1,5 +1,5 @@
 -- What drawing one item row answers, whatever it is given. Definitions only.
-use Rattle.std.specs.Prelude.{ℕ, ◌+◌, Bool, cond, not, ◌&&◌, ◌||◌, List, [], ◌∷◌, eqb, ltb, leb, Float, length, get_or, take, drop, Ok, Err}
+use Rattle.std.specs.Prelude.{ℕ, ◌+◌, Bool, cond, not, ◌&&◌, ◌||◌, List, [], ◌∷◌, eqb, ltb, Float, length, get_or, take, drop, Ok, Err}
 use Rattle.std.specs.Float.{nan}
 use Rattle.ieee.specs.Limit.{all_within}
 use Rattle.command.specs.declared.PathCommand.{PathCommand}
@@ -10,13 +10,13 @@ use Rattle.shape.specs.declared.Shape.{Shape}
 use Rattle.shape.specs.declared.Shape.TheVariants.{Path, Rect, Ellipse}
 use Rattle.shape.specs.Shape.{shape_commands}
 use Rattle.item.specs.declared.ItemRow.{ItemRow}
-use Rattle.item.specs.Rows.{item_row, is_path, is_rect, is_ellipse, is_listed, entries_of}
+use Rattle.item.specs.Rows.{item_row, is_path, is_rect, is_ellipse, is_source, is_listed, entries_of}
 use Rattle.draw.specs.Checks.{coordinate_limit}
 
--- A row that can be asked to be drawn: listed, of the kinds sh 1, rc 2, el 3, sr 4. The depth is not read, and a hidden row is drawn.
+-- A row that can be asked to be drawn: listed, of the kinds sh, rc, el, sr. The depth is not read, and a hidden row is drawn.
 unfoldable pub is_drawable : ItemRow → Bool
 unfolding is_listed
-is_drawable row = is_listed row && leb row.kind 4
+is_drawable row = is_listed row && is_source row
 
 -- ---- the questions about a kind, kind by kind; how many numbers it has is `entries_of`, which marks it may bear `is_mark` (crates/item/specs/Rows.antt)
 

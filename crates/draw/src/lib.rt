@@ -10,7 +10,7 @@ ghost use Rattle.draw.specs.Paths.{path_checks, draw_path};
 ghost use Rattle.draw.specs.Items.{is_drawable, is_held_back, has_no_vertices, source_checks, shape_drawn, draw_source, item_checks, draw_item};
 
 use command::{Outcome, Refusal, Size};
-use item::ItemRow;
+use item::{ItemRow, Kind};
 use shape::Shape;
 
 // The checks of a vertex list, all but that of the buffers.
@@ -43,21 +43,21 @@ pub fn check_path(closed: u32, vertices: &[f32], count: usize) -> Outcome<()>
 fn is_drawable(row: ItemRow) -> bool
     ensures { result ≡ is_drawable row }
 {
-    item::is_listed(row) && row.kind <= 4
+    row.is_listed() && row.kind.is_source()
 }
 
 // Whether a row is a path without vertices.
 fn has_no_vertices(row: ItemRow) -> bool
     ensures { result ≡ has_no_vertices row }
 {
-    row.kind == 1 && row.count == 0
+    row.kind == Kind::Path && row.count == 0
 }
 
 // Whether a row is of a kind that is not drawn yet.
 fn is_held_back(row: ItemRow) -> bool
     ensures { result ≡ is_held_back row }
 {
-    !matches!(row.kind, 1..=3)
+    !matches!(row.kind, Kind::Path | Kind::Rect | Kind::Ellipse)
 }
 
 // What a row whose numbers are there and within the limit says is to be drawn, with the place where its numbers start, or
@@ -69,9 +69,9 @@ pub fn shape_of(row: ItemRow, items: &[f32]) -> Outcome<(usize, Shape)>
 {
     let i = row.place;
     let shape = match row.kind {
-        1 => Shape::Path(row.mark, row.count),
-        2 => Shape::Rect(rect::corner_radius(items[i + 2], items[i + 3], items[i + 4])),
-        3 => Shape::Ellipse,
+        Kind::Path => Shape::Path(row.mark, row.count),
+        Kind::Rect => Shape::Rect(rect::corner_radius(items[i + 2], items[i + 3], items[i + 4])),
+        Kind::Ellipse => Shape::Ellipse,
         _ => return Err(Refusal::Unsupported),
     };
     Ok((i, shape))
@@ -92,7 +92,7 @@ pub fn check_source(row: ItemRow, items: &[f32]) -> Outcome<()>
         return Err(Refusal::TooMany);
     }
     let place = row.place;
-    let n = item::entries_of(row);
+    let n = row.entries();
     if items.len() < n {
         return Err(Refusal::OutOfBounds);
     }

@@ -1,8 +1,7 @@
-// An ellipse as path commands, a command at a time: request U1 of document 02.
+// An ellipse as path commands: request U1 of document 02.
 #![tactic(auto)]
 
-ghost use Rattle.std.specs.Prelude.{◌≡◌, get_or};
-ghost use Rattle.command.specs.declared.PathCommand.TheVariants.{Close};
+ghost use Rattle.std.specs.Prelude.{◌≡◌};
 ghost use Rattle.ellipse.specs.Ellipse.{tangent_on, ellipse_in};
 
 use command::PathCommand;
@@ -15,9 +14,9 @@ fn tangent_on(side: f32) -> f32
     float::abs(side) * 0.5 * rect::KAPPA
 }
 
-// The command at place k of the ellipse in a box, around a centre, with these sides.
-pub fn ellipse_command(bounds: Bounds, cx: f32, cy: f32, w: f32, h: f32, k: usize) -> PathCommand
-    ensures { result ≡ get_or (ellipse_in bounds cx cy w h) k Close }
+// The commands of the ellipse in a box, around a centre, with these sides.
+pub fn ellipse_commands(bounds: Bounds, cx: f32, cy: f32, w: f32, h: f32) -> [PathCommand; 6]
+    ensures { result ≡ ellipse_in bounds cx cy w h }
 {
     let tx = tangent_on(w);
     let ty = tangent_on(h);
@@ -25,12 +24,12 @@ pub fn ellipse_command(bounds: Bounds, cx: f32, cy: f32, w: f32, h: f32, k: usiz
     let t = bounds.top;
     let r = bounds.right;
     let b = bounds.bottom;
-    match k {
-        0 => PathCommand::Move(cx, t),
-        1 => PathCommand::Cubic(cx + tx, t, r, cy - ty, r, cy),
-        2 => PathCommand::Cubic(r, cy + ty, cx + tx, b, cx, b),
-        3 => PathCommand::Cubic(cx - tx, b, l, cy + ty, l, cy),
-        4 => PathCommand::Cubic(l, cy - ty, cx - tx, t, cx, t),
-        _ => PathCommand::Close,
-    }
+    [
+        PathCommand::Move(cx, t),
+        PathCommand::Cubic(cx + tx, t, r, cy - ty, r, cy),
+        PathCommand::Cubic(r, cy + ty, cx + tx, b, cx, b),
+        PathCommand::Cubic(cx - tx, b, l, cy + ty, l, cy),
+        PathCommand::Cubic(l, cy - ty, cx - tx, t, cx, t),
+        PathCommand::Close,
+    ]
 }

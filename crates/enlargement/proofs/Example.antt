@@ -31,6 +31,7 @@ use Rattle.rect.specs.Bounds.{rect_bounds}
 use Rattle.ellipse.specs.Ellipse.{tangent_on, ellipse_path}
 use Rattle.draw.specs.Paths.{draw_path}
 use Rattle.draw.specs.Items.{draw_item}
+use Rattle.item.specs.Kinds.{kind_of}
 use Rattle.merge.specs.Decision.{ruling, decision}
 use Rattle.curve.specs.Curve.{distance}
 use Rattle.measure.specs.Length as measure
@@ -192,7 +193,7 @@ ellipse_drawn : draw_item lent.row plate.items
     ∷ Cubic (f 0x4112_bec3) (f 0x4000_0000) (f 0x4108_0000) (f 0x3f8d_6289) (f 0x4108_0000) zero32
     ∷ Cubic (f 0x4108_0000) (f 0xbf8d_6289) (f 0x4112_bec3) (f 0xc000_0000) (f 0x4120_0000) (f 0xc000_0000)
     ∷ Close ∷ [])
-unfolding draw_item le tangent_on ellipse_path rect_bounds fma mul sub neg sum round units size span climb odd of_bits of_fields
+unfolding draw_item le tangent_on ellipse_path rect_bounds fma mul sub neg sum round units size span climb odd of_bits of_fields kind_of
 ellipse_drawn = refl
 
 larger_ellipse_drawn : draw_item lent.row larger.items
@@ -203,7 +204,7 @@ larger_ellipse_drawn : draw_item lent.row larger.items
     ∷ Cubic (f 0x4212_bec3) (f 0x4100_0000) (f 0x4208_0000) (f 0x408d_6289) (f 0x4208_0000) zero32
     ∷ Cubic (f 0x4208_0000) (f 0xc08d_6289) (f 0x4212_bec3) (f 0xc100_0000) (f 0x4220_0000) (f 0xc100_0000)
     ∷ Close ∷ [])
-unfolding enlarge draw_item le tangent_on ellipse_path rect_bounds fma mul sub neg sum round units size span climb odd of_bits of_fields
+unfolding enlarge draw_item le tangent_on ellipse_path rect_bounds fma mul sub neg sum round units size span climb odd of_bits of_fields kind_of
 larger_ellipse_drawn = refl
 
 -- 12, and 48
@@ -250,7 +251,7 @@ unfolding enlarge sub mul div le of_int of_bits min max clamp fma rem_euclid hyp
 cuts_48 = refl
 
 rows_joined : decision lent.rows lent.row_count ≡ Ok (0 ∷ 1 ∷ 2 ∷ [])
-unfolding decision ruling
+unfolding decision ruling kind_of
 rows_joined = refl
 
 -- the last copy is shifted by 20, and by 80
@@ -258,14 +259,14 @@ shift_20 : transform_answer plate.repeater 2 ≡ Ok (one32 ∷ zero32 ∷ zero32
 unfolding of_bits all_within lt le of_int add sub mul div fma concat pre_translate pre_scale pre_rotate sixteenths_in sixteenths_of reduced turn_of
     repeater.copy_count repeater.step_scale repeater.step_part repeater.step_matrix repeater.step_transform repeater.steps
     repeater.iteration_transform repeater.copy_transform repeater.opacity_of repeater.copy_opacity
-    has_too_many repeater_checks copy_numbers all_finite copy_answer transform_answer
+    has_too_many repeater_checks copy_numbers copy_answer transform_answer
 shift_20 = refl
 
 shift_80 : transform_answer larger.repeater 2 ≡ Ok (one32 ∷ zero32 ∷ zero32 ∷ one32 ∷ of_bits binary32 0x42a0_0000 ∷ zero32 ∷ zero32 ∷ [])
 unfolding enlarge of_bits all_within lt le of_int add sub mul div fma concat pre_translate pre_scale pre_rotate sixteenths_in sixteenths_of reduced turn_of
     repeater.copy_count repeater.step_scale repeater.step_part repeater.step_matrix repeater.step_transform repeater.steps
     repeater.iteration_transform repeater.copy_transform repeater.opacity_of repeater.copy_opacity
-    has_too_many repeater_checks copy_numbers all_finite copy_answer transform_answer
+    has_too_many repeater_checks copy_numbers copy_answer transform_answer
 shift_80 = refl
 
 -- the factors are the f32 2, 4, 8, 16, 32 and 64

@@ -78,14 +78,14 @@ large_scale : copy_at zero32 (of_bits binary32 0x4480_0000) zero32 (of_bits bina
 unfolding of_bits all_within lt le of_int add sub mul div fma concat pre_translate pre_scale pre_rotate sixteenths_in sixteenths_of reduced turn_of
     repeater.copy_count repeater.step_scale repeater.step_part repeater.step_matrix repeater.step_transform repeater.steps
     repeater.iteration_transform repeater.copy_transform repeater.opacity_of repeater.copy_opacity
-    has_too_many repeater_checks copy_numbers all_finite copy_answer transform_answer
+    has_too_many repeater_checks copy_numbers copy_answer transform_answer
 large_scale = refl
 
 large_scale_enlarged : copy_at zero32 (of_bits binary32 0x4500_0000) zero32 (of_bits binary32 0x4948_0000) 9 ≡ Err NotFinite
 unfolding of_bits all_within lt le of_int add sub mul div fma concat pre_translate pre_scale pre_rotate sixteenths_in sixteenths_of reduced turn_of
     repeater.copy_count repeater.step_scale repeater.step_part repeater.step_matrix repeater.step_transform repeater.steps
     repeater.iteration_transform repeater.copy_transform repeater.opacity_of repeater.copy_opacity
-    has_too_many repeater_checks copy_numbers all_finite copy_answer transform_answer
+    has_too_many repeater_checks copy_numbers copy_answer transform_answer
 large_scale_enlarged = refl
 
 -- ---- the anchor is multiplied with the position: around 8,192 a third of a step by 1 is rounded to 341 / 1,024, and a third of a step by 2 to 683 / 1,024, which is not twice that
@@ -94,7 +94,7 @@ third_of_one : copy_at (of_bits binary32 0x3eaa_aaab) (of_bits binary32 0x4600_0
 unfolding of_bits all_within lt le of_int add sub mul div fma concat pre_translate pre_scale pre_rotate sixteenths_in sixteenths_of reduced turn_of
     repeater.copy_count repeater.step_scale repeater.step_part repeater.step_matrix repeater.step_transform repeater.steps
     repeater.iteration_transform repeater.copy_transform repeater.opacity_of repeater.copy_opacity
-    has_too_many repeater_checks copy_numbers all_finite copy_answer transform_answer
+    has_too_many repeater_checks copy_numbers copy_answer transform_answer
 third_of_one = refl
 
 third_of_two : copy_at (of_bits binary32 0x3eaa_aaab) (of_bits binary32 0x4600_0000) (of_bits binary32 0x4000_0000) (of_bits binary32 0x42c8_0000) 0
@@ -102,7 +102,7 @@ third_of_two : copy_at (of_bits binary32 0x3eaa_aaab) (of_bits binary32 0x4600_0
 unfolding of_bits all_within lt le of_int add sub mul div fma concat pre_translate pre_scale pre_rotate sixteenths_in sixteenths_of reduced turn_of
     repeater.copy_count repeater.step_scale repeater.step_part repeater.step_matrix repeater.step_transform repeater.steps
     repeater.iteration_transform repeater.copy_transform repeater.opacity_of repeater.copy_opacity
-    has_too_many repeater_checks copy_numbers all_finite copy_answer transform_answer
+    has_too_many repeater_checks copy_numbers copy_answer transform_answer
 third_of_two = refl
 
 -- ---- a length whose multiple is finite too: 2 ^ 127 is not reached by a line of length 5, and twice that is no length

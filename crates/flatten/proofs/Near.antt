@@ -1,11 +1,11 @@
 -- A number of binary32 whose pattern is within 13 binades of the pattern `top` is a whole number of 2 ^ -q, at most 2 ^ 37 of them, where q goes by `top` alone. Assumes nothing.
 use mathlib.Core.Path.{◌≡◌, refl, sym, ap, ◌∙◌, subst}
 use Prim.Native.Nat.{ℕ, ◌+◌, ◌-◌, ◌*◌, ◌/◌, ◌^◌, ◌≤◌, ◌<◌, zero-le}
-use native.Mathlib.Nat.{lt_irrefl, lt_of_lt_of_le, not-suc-le-zero, zero-mul, mul_assoc, mul-pos, mul-le-mul}
+use native.Mathlib.Nat.{lt_irrefl, zero-mul, mul_assoc, mul-pos, mul-le-mul}
 use native.Mathlib.Omega.{arith}
 use mathlib.Core.Bool.{Bool, true, false, not, true≢false}
 use mathlib.Core.List.{List, [], ◌∷◌}
-use lib.ListN.{get_or}
+use lib.ListN.{length, get_or}
 use lib.IntN.{pos}
 use lib.Dec.{T, leb}
 use lib.Pow.{pow-add, pow_pos, pow_mono}
@@ -13,8 +13,9 @@ use lib.Ieee.{Float, nan, fin, binary32, fits, is_nan, to_bits, of_bits}
 use lib.Ieee.Bits.{is_true, of_bits-to_bits}
 use lib.Ieee.Exact.{HasValue}
 use lib.Ieee.Scale.{finite}
-use borrow.Author.Count.{below_more}
 use borrow.Author.Tests.{leb-true}
+use Rattle.std.specs.Bool.{MatchBool}
+use Rattle.std.specs.List.{AllWithin}
 use Rattle.ieee.specs.Limit.{within, Bounded}
 use Rattle.ieee.specs.Pattern.{bare, digits_of, drops_of}
 use Rattle.ieee.proofs.Value.{rescale}
@@ -89,26 +90,10 @@ module _ (x : Float) (r : Bool) (is : r ≡ within (of_bits binary32 0x4a80_0000
   pub near_size : (top : ℕ) → fits binary32 x ≡ true → 0x1a80_0000 ≤ top → top ≤ 0x4a80_0000 → bare x ≤ top → leb (top - 0x0680_0000) (bare x) ≡ true → Near (163 - top / 2 ^ 23) x
   near_size top f lo hi under e = record { level = level_size top x (subst T (sym f) tt) lo hi (leb-true (top - 0x0680_0000) (bare x) e) under; bounded = inside }
 
-pub not_near : (q : ℕ) (x : Float) → false ≡ true → Near q x
-not_near q x e = absurd (true≢false (sym e))
-
--- ---- as `is_level` and `is_level_quad` meet them: each of the first i numbers of n is near
-pub record Passed (n top : ℕ) (xs : List Float) (i : ℕ) : Type 0 where
-  pub bound : i ≤ n
-  pub near : (k : ℕ) → k < i → Near (163 - top / 2 ^ 23) (get_or xs k nan)
-
-module _ (n top : ℕ) (xs : List Float) where
-  pub passed_none : Passed n top xs 0
-  passed_none = record { bound = zero-le; near = λ k h. absurd (not-suc-le-zero h) }
-
-  pub passed_more : (i : ℕ) (r : Bool) → Passed n top xs i → i < n → (r ≡ true → Near (163 - top / 2 ^ 23) (get_or xs i nan)) → r ≡ true → Passed n top xs (i + 1)
-  passed_more i r P h m e = record { bound = omega arith; near = below_more (λ k. Near (163 - top / 2 ^ 23) (get_or xs k nan)) i P.near (m e) }
-
-  pub passed_all : (i : ℕ) → Passed n top xs i → n ≤ i → 0x1a80_0000 ≤ top → AllNear n xs
-  passed_all i P h lo = record { q = 163 - top / 2 ^ 23; fine = omega arith; near = λ k l. P.near k (lt_of_lt_of_le l h) }
-
-pub not_all_near : (n : ℕ) (xs : List Float) → false ≡ true → AllNear n xs
-not_all_near n xs e = absurd (true≢false (sym e))
+-- ---- as `is_level` meets them: each of the numbers is near
+pub all_near : (n top : ℕ) (xs : List Float) (Q : Type 0) (r : Bool) → length xs ≡ n → 0x1a80_0000 ≤ top → MatchBool r (AllWithin (Near (163 - top / 2 ^ 23)) xs 0 (length xs)) Q → r ≡ true → AllNear n xs
+all_near n top xs Q true long lo m e = record { q = 163 - top / 2 ^ 23; fine = omega arith; near = λ k l. m k nan zero-le (omega arith) }
+all_near n top xs Q false long lo m e = absurd (true≢false (sym e))
 
 -- ---- as callers of `is_level` meet them: the coordinates of each axis
 module _ (x0 y0 x1 y1 x2 y2 x3 y3 : Float) (r : Bool) (level : r ≡ true → AllNear 8 (x0 ∷ y0 ∷ x1 ∷ y1 ∷ x2 ∷ y2 ∷ x3 ∷ y3 ∷ [])) (passed : r ≡ true) where
@@ -121,7 +106,7 @@ module _ (x0 y0 x1 y1 x2 y2 x3 y3 : Float) (r : Bool) (level : r ≡ true → Al
   pub along_y : Coordinates y0 y1 y2 y3
   along_y = record { q = (level passed).q; fine = (level passed).fine; start = near_at 1 (omega arith); control1 = near_at 3 (omega arith); control2 = near_at 5 (omega arith); end = near_at 7 (omega arith) }
 
--- ---- and of `is_level_quad`
+-- ---- those of a quad
 module _ (x0 y0 x1 y1 x2 y2 : Float) (r : Bool) (level : r ≡ true → AllNear 6 (x0 ∷ y0 ∷ x1 ∷ y1 ∷ x2 ∷ y2 ∷ [])) (passed : r ≡ true) where
   quad_near_at : (k : ℕ) → k < 6 → Level (level passed).q (get_or (x0 ∷ y0 ∷ x1 ∷ y1 ∷ x2 ∷ y2 ∷ []) k nan)
   quad_near_at k h = ((level passed).near k h).level

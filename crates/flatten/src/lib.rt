@@ -14,12 +14,14 @@ fn weighted(w0: f64, w1: f64, w2: f64, w3: f64, a: f64, b: f64, c: f64, d: f64) 
     requires { Weights w0 w1 w2 w3 × Coordinates a b c d }
     ensures { result ≡ fma binary32 w3 d (fma binary32 w2 c (fma binary32 w0 a (mul binary32 w1 b))) }
 {
-    narrow::narrowed(
-        w3 * d + narrow::narrowed(w2 * c + narrow::narrowed(w0 * a + narrow::narrowed(w1 * b))),
-    ) as f32
+    let one = narrow::narrowed(w1 * b);
+    let two = narrow::narrowed(w0 * a + one);
+    let three = narrow::narrowed(w2 * c + two);
+    narrow::narrowed(w3 * d + three) as f32
 }
 
 // step / 32.
+#[tactic(auto, using(crate::proofs::Steps::step_casts, crate::proofs::Steps::step_is))]
 fn of_step(step: u32) -> f32
     requires { step < 32 }
     ensures { result ≡ step_of 32 step }
@@ -46,10 +48,13 @@ fn weighted_quad(w0: f64, w1: f64, w2: f64, a: f64, b: f64, c: f64) -> f32
     requires { QuadWeights w0 w1 w2 × QuadCoordinates a b c }
     ensures { result ≡ fma binary32 w2 c (fma binary32 w0 a (mul binary32 w1 b)) }
 {
-    narrow::narrowed(w2 * c + narrow::narrowed(w0 * a + narrow::narrowed(w1 * b))) as f32
+    let one = narrow::narrowed(w1 * b);
+    let two = narrow::narrowed(w0 * a + one);
+    narrow::narrowed(w2 * c + two) as f32
 }
 
 // eighth / 8, as a step of 24: every third of them.
+#[tactic(auto, using(crate::proofs::Eighths::eighth_casts, crate::proofs::Eighths::eighth_is))]
 fn of_eighth(eighth: u32) -> f32
     requires { eighth < 8 }
     ensures { result ≡ step_of 24 (3 * eighth) }
@@ -71,6 +76,7 @@ pub fn quad_at(a: f32, b: f32, c: f32, eighth: u32) -> f32
 }
 
 // The bit pattern of x without its sign; a NaN's is larger than any number's.
+#[tactic(auto, using(ieee::proofs::Pattern::is_number_eq))]
 fn bare(x: f32) -> u32 {
     if x == x {
         f32::to_bits(x) % 0x8000_0000
@@ -79,95 +85,23 @@ fn bare(x: f32) -> u32 {
     }
 }
 
-// The largest of the bit patterns without their signs. Nothing is promised: `is_near` tests each number against it.
-fn largest(numbers: &[f32; 8]) -> u32 {
-    let mut top: u32 = 0;
-    let mut i: usize = 0;
-    while i < 8 {
-        let pattern = bare(numbers[i]);
-        if pattern > top {
-            top = pattern;
-        }
-        i += 1;
-    }
-    top
-}
-
 // Whether x is +0, or of a size not above the pattern `top` and at most 13 binades below it, and is at most 2^22.
 fn is_near(x: f32, top: u32) -> bool
     requires { (0x1a80_0000 ≤ top) × (top ≤ 0x4a80_0000) }
     ensures { result ≡ true → Near (163 - top / 2 ^ 23) x }
 {
-    if float::is_within(x, 4194304.0) {
-        let pattern = f32::to_bits(x);
-        if pattern == 0 {
-            return true;
-        }
-        let size = pattern % 0x8000_0000;
-        if size <= top {
-            top - 0x0680_0000 <= size
-        } else {
-            false
-        }
-    } else {
-        false
+    if !float::is_within(x, 4194304.0) {
+        return false;
     }
+    let pattern = f32::to_bits(x);
+    let size = pattern % 0x8000_0000;
+    pattern == 0 || size <= top && top - 0x0680_0000 <= size
 }
 
-// Whether the coordinates of a cubic are within 13 binades of the largest of them, or +0, and none is over 2^22.
-pub fn is_level(numbers: &[f32; 8]) -> bool
-    ensures { result ≡ true → AllNear 8 numbers.now }
+// Whether the coordinates of a curve are within 13 binades of the largest of them, or +0, and none is over 2^22.
+pub fn is_level<const N: usize>(numbers: &[f32; N]) -> bool
+    ensures { result ≡ true → AllNear N numbers.now }
 {
-    let top = largest(numbers);
-    if top < 0x1a80_0000 {
-        return false;
-    }
-    if top > 0x4a80_0000 {
-        return false;
-    }
-    let mut i: usize = 0;
-    while i < 8 {
-        if is_near(numbers[i], top) {
-            i += 1;
-        } else {
-            return false;
-        }
-    }
-    true
-}
-
-// The same of the six coordinates of a quad: a function of its own, so that each is part of its one caller.
-fn largest_of_quad(numbers: &[f32; 6]) -> u32 {
-    let mut top: u32 = 0;
-    let mut i: usize = 0;
-    while i < 6 {
-        let pattern = bare(numbers[i]);
-        if pattern > top {
-            top = pattern;
-        }
-        i += 1;
-    }
-    top
-}
-
-// Whether the coordinates of a quad are within 13 binades of the largest of them, or +0, and none is over 2^22.
-pub fn is_level_quad(numbers: &[f32; 6]) -> bool
-    ensures { result ≡ true → AllNear 6 numbers.now }
-{
-    let top = largest_of_quad(numbers);
-    if top < 0x1a80_0000 {
-        return false;
-    }
-    if top > 0x4a80_0000 {
-        return false;
-    }
-    let mut i: usize = 0;
-    while i < 6 {
-        if is_near(numbers[i], top) {
-            i += 1;
-        } else {
-            return false;
-        }
-    }
-    true
+    let top = numbers.iter().fold(0, |top, x| bare(*x).max(top));
+    0x1a80_0000 <= top && top <= 0x4a80_0000 && numbers.iter().all(|x| is_near(*x, top))
 }

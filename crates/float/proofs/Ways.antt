@@ -3,14 +3,13 @@ use mathlib.Core.Path.{◌≡◌, refl, sym, ap, ◌∙◌, subst}
 use Prim.Native.Nat.{ℕ, ◌+◌, ◌-◌, ◌*◌, ◌%◌, ◌^◌, ◌≤◌, ◌<◌, min}
 use native.Mathlib.Nat.{le_antisymm}
 use native.Mathlib.Omega.{arith}
-use mathlib.Core.Bool.{Bool, true, false, not, ◌&&◌}
-use mathlib.Core.List.{List, [], ◌∷◌}
+use mathlib.Core.Bool.{Bool, true, false, not, ◌&&◌, and-true, and_assoc}
+use mathlib.Core.List.{List, [], ◌∷◌, ◌++◌}
 use lib.Dec.{T, leb, ltb, ltb→lt, nltb→le}
 use lib.Ieee.{Float, nan, inf, fin, binary32, units, neg, lt, le, fits, is_nan, of_bits, to_bits, nan_bits}
 use lib.Ieee.Bits.{to_bits-lt}
 use lib.Ieee.Exact.{HasValue}
 use lib.Ieee.Scale.{finite}
-use Rattle.std.specs.List.{list_all}
 use Rattle.std.specs.Float.{float_with_sign, float_is_finite}
 use Rattle.ieee.specs.Sign.{abs}
 use Rattle.ieee.specs.Choice as Choice
@@ -152,9 +151,18 @@ within_low limit x h = sym (within_both x limit ∙ ap (λ (b : Bool). b && le (
 pub within_not : (limit x : Float) → le x limit ≡ false → le x limit ≡ within limit x
 within_not limit x h = h ∙ sym (within_both x limit ∙ ap (λ (b : Bool). b && le (neg limit) x) h)
 
-pub all_is : (limit : Float) (xs : List Float) → list_all (within limit) xs ≡ all_within limit xs
+all_push : (limit : Float) (xs : List Float) (x : Float) → all_within limit (xs ++ (x ∷ [])) ≡ (all_within limit xs && within limit x)
 unfolding all_within
-all_is limit [] = refl
-all_is limit (x ∷ xs) = ap (λ (b : Bool). within limit x && b) (all_is limit xs)
+all_push limit [] x = and-true (within limit x)
+all_push limit (y ∷ ys) x =
+    ap (λ (b : Bool). within limit y && b) (all_push limit ys x)
+    ∙ sym (and_assoc (within limit y) (all_within limit ys) (within limit x))
+
+pub all_none : (limit : Float) → true ≡ all_within limit []
+unfolding all_within
+all_none limit = refl
+
+pub all_more : (limit : Float) (xs : List Float) (x : Float) (so_far : Bool) → so_far ≡ all_within limit xs → (so_far && within limit x) ≡ all_within limit (xs ++ (x ∷ []))
+all_more limit xs x so_far e = ap (λ (b : Bool). b && within limit x) e ∙ sym (all_push limit xs x)
 
 pub ruleset ways = (pattern_fits, split_nan, split_inf, split_value, split_small, split_short, split_full, ok_minus, ok_plus, signed_minus, signed_plus, encode_is, abs_is, finite_is, at_least_low, at_least_stay, clamp_high, clamp_stay, within_low, within_not)

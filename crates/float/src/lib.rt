@@ -17,14 +17,13 @@ mod parts;
 pub use parts::Parts;
 
 // The pattern of +infinity.
-pub const INFINITY: u64 = f32::to_bits(f32::INFINITY) as u64;
+const INFINITY: u64 = f32::to_bits(f32::INFINITY) as u64;
 
 // How many places the digits of a pattern with a clear sign stand above the smallest float's.
 pub fn drops_of(p: u64) -> u64
     ensures { result ≡ drops_of p }
 {
-    let field = p / 0x80_0000;
-    if field == 0 { 0 } else { field - 1 }
+    (p / 0x80_0000).saturating_sub(1)
 }
 
 // The parts of x, or none where x is a NaN or an infinity.
@@ -116,9 +115,11 @@ pub fn is_within(x: f32, limit: f32) -> bool
     x <= limit && -limit <= x
 }
 
-// Whether each number is at most `limit` in absolute value.
+// Whether each number is at most `limit` in absolute value. It goes to the end: where each number is, `all` takes half as long again.
 pub fn all_within(numbers: &[f32], limit: f32) -> bool
     ensures { result ≡ all_within limit numbers.now }
 {
-    numbers.iter().all(|x| is_within(*x, limit))
+    numbers
+        .iter()
+        .fold(true, |so_far, x| so_far & is_within(*x, limit))
 }

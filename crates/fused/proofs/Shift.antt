@@ -1,4 +1,4 @@
--- What the shifts of `lift`, `rounded` and `jammed` are, at 64 bits. Assumes nothing.
+-- What the shifts of `lifted`, `rounded` and `jammed` are, at 64 bits. Assumes nothing.
 use mathlib.Core.Path.{◌≡◌, sym, ap, ◌∙◌, subst}
 use Prim.Native.Nat.{ℕ, suc, ◌+◌, ◌-◌, ◌*◌, ◌/◌, ◌%◌, ◌^◌, ◌≤◌, ◌<◌, min, compare, Ordering}
 use native.Mathlib.Nat.{le_of_lt, le_trans, le_of_eq, lt_of_lt_of_le, lt_of_le_of_lt, mul_assoc, one-mul, zero-add, mul-le-mul_right, mul-lt-mul_of_pos_right, div-mul-le_self, mod-eq_of_lt, mul-mod_left, sub-le, pow-succ'}
@@ -14,7 +14,7 @@ use Rattle.fused.specs.declared.term.Term.{Term}
 use Rattle.fused.specs.Align.{jam}
 use Rattle.fused.specs.Lifted.{Lifted}
 
--- ---- `lift`
+-- ---- `lifted`
 pub zeros_fit : (m : ℕ) → count_leading_zeros 64 m < 2 ^ 64
 zeros_fit m = lt_of_le_of_lt (leading_le 64 m) (lit< tt)
 

@@ -55,7 +55,7 @@ fn quick(a: f32, b: f32, c: f32) -> Option<f32>
     Some(float::signed(t >= 0x8000_0000_0000_0000, p))
 }
 
-// a * b + c, rounded once.
+// a * b + c, rounded once. `f32::mul_add` promises the same; the steps are written out here so that a wrong one can be shown to be refused.
 pub fn mul_add(a: f32, b: f32, c: f32) -> f32
     ensures { result ≡ fma binary32 a b c }
 {

@@ -16,7 +16,3 @@ entries_rect row a b = rw (a, b)
 pub entries_ellipse : (row : ItemRow) → is_path row ≡ false → is_rect row ≡ false → is_ellipse row ≡ true → entries_of row ≡ 4
 unfolding entries_of
 entries_ellipse row a b c = rw (a, b, c)
-
-pub entries_none : (row : ItemRow) → is_path row ≡ false → is_rect row ≡ false → is_ellipse row ≡ false → entries_of row ≡ 0
-unfolding entries_of
-entries_none row a b c = rw (a, b, c)

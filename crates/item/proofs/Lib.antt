@@ -1,3 +1,2 @@
--- What the proofs of `item` cite, and how many numbers a row has.
+-- How many numbers a row has.
 pub mod Entries
-pub mod Ways

@@ -1,2 +1,3 @@
--- Item rows and their rules.
+-- The kinds of items, item rows and their rules.
+pub mod Kinds
 pub mod Rows

@@ -1,20 +1,162 @@
 // One row of an item list, and the rules for a row by itself.
 #![tactic(auto)]
 
-ghost use Rattle.std.specs.Prelude.{◌≡◌, ◌+◌, ◌*◌, ◌≤◌, length};
-ghost use Rattle.item.specs.Rows.{item_row, is_mark, is_listed, entries_of};
+ghost use Rattle.std.specs.Prelude.{◌≡◌, ◌*◌, ◌+◌, ◌≤◌, length};
+ghost use Rattle.item.specs.Kinds.{kind_of, is_source_kind, is_style_kind};
+ghost use Rattle.item.specs.Rows.{row_of, item_row, is_mark, is_listed, entries_of};
+
+// What an item is, with the two letters that Lottie writes for it.
+#[derive(Clone, Copy, PartialEq, Eq)]
+pub enum Kind {
+    // sh
+    Path,
+    // rc
+    Rect,
+    // el
+    Ellipse,
+    // sr
+    Star,
+    // gr
+    Group,
+    // tr
+    Transform,
+    // fl
+    Fill,
+    // st
+    Stroke,
+    // gf
+    GradientFill,
+    // gs
+    GradientStroke,
+    // tm
+    Trim,
+    // rp
+    Repeater,
+    // mm
+    Merge,
+    // Any other item of Lottie's.
+    Other,
+    // A number that stands for no kind: a row is read before it is judged.
+    Unlisted,
+}
+
+// C lends a kind as its number.
+impl From<u32> for Kind {
+    ghost from_gives = { λ number kind. kind ≡ kind_of number };
+
+    #[tactic(auto, unfolding(crate::specs::Kinds::kind_of))]
+    fn from(number: u32) -> Kind {
+        match number {
+            1 => Kind::Path,
+            2 => Kind::Rect,
+            3 => Kind::Ellipse,
+            4 => Kind::Star,
+            5 => Kind::Group,
+            6 => Kind::Transform,
+            7 => Kind::Fill,
+            8 => Kind::Stroke,
+            9 => Kind::GradientFill,
+            10 => Kind::GradientStroke,
+            11 => Kind::Trim,
+            12 => Kind::Repeater,
+            13 => Kind::Merge,
+            14 => Kind::Other,
+            _ => Kind::Unlisted,
+        }
+    }
+}
+
+impl Kind {
+    // Whether it can be drawn.
+    pub fn is_source(self) -> bool
+        ensures { result ≡ is_source_kind self }
+    {
+        matches!(self, Kind::Path | Kind::Rect | Kind::Ellipse | Kind::Star)
+    }
+
+    // Whether it colours or alters a drawing.
+    pub fn is_style(self) -> bool
+        ensures { result ≡ is_style_kind self }
+    {
+        matches!(
+            self,
+            Kind::Fill
+                | Kind::Stroke
+                | Kind::GradientFill
+                | Kind::GradientStroke
+                | Kind::Trim
+                | Kind::Repeater
+        )
+    }
+
+    // Whether it may bear a mark.
+    #[tactic(auto, unfolding(crate::specs::Rows::is_mark))]
+    fn may_bear(self, mark: u32) -> bool
+        ensures { result ≡ is_mark self mark }
+    {
+        match self {
+            Kind::Path => mark <= 1,
+            Kind::Merge => mark <= 255,
+            _ => mark == 0,
+        }
+    }
+}
 
 #[derive(Clone, Copy)]
 pub struct ItemRow {
-    pub kind: u32,
+    pub kind: Kind,
+    // 1 for hidden and 0 for visible: a number, since a row with any other is read too, and then judged.
     pub hidden: u32,
     pub depth: u32,
-    // The closed flag of a path, or the mode of a merge.
+    // The closed flag of a path, or the mode of a merge: a number, since any may be lent, and the kind tells which are listed.
     pub mark: u32,
     // Where its numbers start.
     pub place: usize,
     // How many vertices.
     pub count: usize,
+}
+
+impl From<[u32; 6]> for ItemRow {
+    ghost from_gives = { λ entries row. row ≡ row_of entries };
+
+    fn from(entries: [u32; 6]) -> ItemRow {
+        let [kind, hidden, depth, mark, place, count] = entries;
+        ItemRow {
+            kind: Kind::from(kind),
+            hidden,
+            depth,
+            mark,
+            place: place as usize,
+            count: count as usize,
+        }
+    }
+}
+
+impl ItemRow {
+    // Whether it has only listed entries.
+    #[tactic(auto, unfolding(crate::specs::Rows::is_listed))]
+    pub fn is_listed(self) -> bool
+        ensures { result ≡ is_listed self }
+    {
+        self.kind != Kind::Unlisted
+            && self.hidden <= 1
+            && self.kind.may_bear(self.mark)
+            && (self.kind == Kind::Path || self.count == 0)
+    }
+
+    // How many numbers it has in the item list.
+    #[tactic(auto, unfolding(crate::specs::Rows::entries_of))]
+    pub fn entries(self) -> usize
+        requires { self.count ≤ 1024 }
+        ensures { result ≡ entries_of self }
+    {
+        match self.kind {
+            Kind::Path => 6 * self.count,
+            Kind::Rect => 5,
+            Kind::Ellipse => 4,
+            _ => 0,
+        }
+    }
 }
 
 // The row at a place of a list of rows.
@@ -23,57 +165,12 @@ pub fn item_row(rows: &[u32], r: usize) -> ItemRow
     ensures { result ≡ item_row rows.now r }
 {
     let i = 6 * r;
-    ItemRow {
-        kind: rows[i],
-        hidden: rows[i + 1],
-        depth: rows[i + 2],
-        mark: rows[i + 3],
-        place: rows[i + 4] as usize,
-        count: rows[i + 5] as usize,
-    }
-}
-
-// Whether a kind may bear a mark.
-fn is_mark(kind: u32, mark: u32) -> bool
-    ensures { result ≡ is_mark kind mark }
-{
-    match kind {
-        1 => mark <= 1,
-        13 => mark <= 255,
-        _ => mark == 0,
-    }
-}
-
-// Whether a row has only listed entries.
-pub fn is_listed(row: ItemRow) -> bool
-    ensures { result ≡ is_listed row }
-{
-    if row.kind < 1 {
-        return false;
-    }
-    if row.kind > 14 {
-        return false;
-    }
-    if row.hidden > 1 {
-        return false;
-    }
-    if is_mark(row.kind, row.mark) {
-        if row.kind == 1 { true } else { row.count == 0 }
-    } else {
-        false
-    }
-}
-
-// How many numbers a row has in the item list.
-pub fn entries_of(row: ItemRow) -> usize
-    requires { row.count ≤ 1024 }
-    ensures { result ≡ entries_of row }
-{
-    let kind = row.kind;
-    match kind {
-        1 => 6 * row.count,
-        2 => 5,
-        3 => 4,
-        _ => 0,
-    }
+    ItemRow::from([
+        rows[i],
+        rows[i + 1],
+        rows[i + 2],
+        rows[i + 3],
+        rows[i + 4],
+        rows[i + 5],
+    ])
 }

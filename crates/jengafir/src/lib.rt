@@ -232,7 +232,6 @@ pub extern "C" fn jengafir_command(
     command::tell(judge::find_command(codes, numbers, k), start, count)
 }
 
-#[tactic(auto, using(cut::proofs::Ways::telling))]
 #[unsafe(no_mangle)]
 pub extern "C" fn jengafir_trim_ranges(
     start: f32,
@@ -266,7 +265,6 @@ pub extern "C" fn jengafir_trim_ranges(
     }
 }
 
-#[tactic(auto, using(cut::proofs::Ways::telling))]
 #[unsafe(no_mangle)]
 pub extern "C" fn jengafir_trim_lengths(
     start: f32,

@@ -1,5 +1,5 @@
 -- Which rows a merge joins: source rows before the merge row, so visible ones of the first n at depth 0, and at most 255. Assumes nothing.
-use Rattle.std.specs.Prelude.{Ok, Err}
+use Rattle.std.specs.Prelude.{Option, None, Some, Ok, Err}
 use mathlib.Core.Path.{◌≡◌, refl, sym, ap, ◌∙◌}
 use mathlib.Core.Bool.{Bool, true, false, cond, ◌&&◌}
 use mathlib.Core.List.{List, [], ◌∷◌}
@@ -11,8 +11,6 @@ use Rattle.command.specs.declared.Refusal.TheVariants.{NotMergeable}
 use Rattle.item.specs.declared.ItemRow.{ItemRow}
 use Rattle.item.specs.Rows.{item_row}
 use Rattle.nest.specs.Lists.{rows_from}
-use Rattle.merge.specs.declared.Scan.{Scan}
-use Rattle.merge.specs.declared.Scan.TheVariants.{Nowhere, At}
 use Rattle.merge.specs.Flat.{is_source_row, sources_from, scan_from, late_from}
 use Rattle.merge.specs.Decision.{decision}
 use Rattle.merge.proofs.Passed.{decision_passed}
@@ -60,11 +58,11 @@ record Decided (rows : List ℕ) (n : ℕ) (numbers : List ℕ) : Type 0 where
   few : n ≤ 256
   are : numbers ≡ sources_from 0 (rows_from rows 0 end)
 
-settled_joined : (rs : List ItemRow) (s : Scan) (numbers : List ℕ) → scan_from 0 0 rs ≡ s → settled s rs ≡ Ok numbers
+settled_joined : (rs : List ItemRow) (s : Option (ℕ × ℕ)) (numbers : List ℕ) → scan_from 0 0 rs ≡ s → settled s rs ≡ Ok numbers
     → (m : ℕ) × (m < length rs) × (numbers ≡ sources_from 0 (take m rs))
 unfolding settled
-settled_joined rs Nowhere numbers e h = let z : ◌≡◌ {A = ℕ} 0 1 = cc in absurd (omega arith)
-settled_joined rs (At m c) numbers e h = (m, scan_inside rs m c e, go (leb 2 c && late_from true (drop (m + 1) rs)) h)
+settled_joined rs None numbers e h = let z : ◌≡◌ {A = ℕ} 0 1 = cc in absurd (omega arith)
+settled_joined rs (Some (m, c)) numbers e h = (m, scan_inside rs m c e, go (leb 2 c && late_from true (drop (m + 1) rs)) h)
   where
     go : (b : Bool) → cond b (Ok (sources_from 0 (take m rs))) (Err NotMergeable) ≡ Ok numbers → numbers ≡ sources_from 0 (take m rs)
     go true f = cc

@@ -14,7 +14,8 @@ use Rattle.command.specs.Outcomes.{Outcome, and_then}
 use Rattle.item.specs.Rows.{item_row, is_visible, is_listed, entries_of}
 use Rattle.draw.specs.Items.{draw_source}
 use Rattle.draw.proofs.Read.{source_read}
-use Rattle.nest.specs.Lists.{rows_from, each_row}
+use Rattle.std.specs.List.{list_all}
+use Rattle.nest.specs.Lists.{rows_from}
 use Rattle.nest.proofs.Rows.{row_read}
 use Rattle.nest.proofs.Alike.{Alike, ends, goes}
 use Rattle.merge.specs.Decision.{decision}
@@ -90,6 +91,6 @@ rows_alike rows rows' (suc left) i same =
 
 -- the place, mark and count of a hidden row, and the place and count of a visible one that is no source outside any group, may be any that keep the rules for one row
 pub merge_rows : (rows rows' : List ℕ) (n : ℕ) (items : List Float) → length rows ≡ length rows' → ((i : ℕ) → i < n → SameRead (item_row rows i) (item_row rows' i))
-    → each_row is_listed (rows_from rows 0 n) ≡ each_row is_listed (rows_from rows' 0 n) → draw_merge rows n items ≡ draw_merge rows' n items
+    → list_all is_listed (rows_from rows 0 n) ≡ list_all is_listed (rows_from rows' 0 n) → draw_merge rows n items ≡ draw_merge rows' n items
 merge_rows rows rows' n items l same listed =
     same_merge rows rows' n items (decision_alike rows rows' n l (rows_alike rows rows' n 0 (λ j h. same j (omega arith))) listed) (λ i h. (same i h).source)

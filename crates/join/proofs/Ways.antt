@@ -35,8 +35,6 @@ use Rattle.draw.proofs.Sources.{DrawnSource, drawn_source, source_few, source_nu
 use Rattle.need.proofs.Enough.{drawn_needs}
 use Rattle.nest.specs.Lists.{rows_from}
 use Rattle.nest.proofs.Rows.{rest_step, rest_none, rest_all}
-use Rattle.merge.specs.declared.Decision.{Decision}
-use Rattle.merge.specs.declared.Decision.TheVariants as Merge
 use Rattle.merge.specs.Flat.{is_source_row, sources_from}
 use Rattle.merge.specs.Decision.{said, decision, Settled}
 use Rattle.join.specs.Merge.{followed_by, draw_sources, draw_joined, draw_merge}
@@ -465,20 +463,20 @@ sources_drawn rows items i (suc left) = go (is_source_row (item_row rows i)) (so
     go true e = ap (followed_by (draw_source (item_row rows i) items)) e
     go false e = e ∙ sym (nothing_first (draw_rows (rows_from rows (i + 1) left) items))
 
-module _ (rows : List ℕ) (n : ℕ) (items : List Float) (k : Decision) (is : said rows k ≡ decision rows n) where
+module _ (rows : List ℕ) (n : ℕ) (items : List Float) (k : Outcome ℕ) (is : said rows k ≡ decision rows n) where
   abbrev merged : Outcome (List PathCommand)
   merged = draw_merge rows n items
 
-  pub merge_refused : (codes : List ℕ) (numbers : List Float) (r : Refusal) → k ≡ Merge.Refused r
+  pub merge_refused : (codes : List ℕ) (numbers : List Float) (r : Refusal) → k ≡ Err r
       → FilledBoth (fitted (in_buffers (length codes) (length numbers)) merged) (refusal_number r) 0 0 codes codes numbers numbers
   unfolding draw_merge said fitted
   merge_refused codes numbers r e = rw (← is, e) (both_unfilled r codes numbers)
 
-  pub merge_need_refused : (r : Refusal) → k ≡ Merge.Refused r → Err r ≡ need_of merged
+  pub merge_need_refused : (r : Refusal) → k ≡ Err r → Err r ≡ need_of merged
   unfolding draw_merge said
   merge_need_refused r e = rw (← is, e)
 
-  module _ (m : ℕ) (e : k ≡ Merge.Joined m) where
+  module _ (m : ℕ) (e : k ≡ Ok m) where
     joined_is : draw_rows (rows_from rows 0 m) items ≡ merged
     unfolding draw_merge draw_joined said
     joined_is = rw (← is, e) (sym (sources_drawn rows items 0 m))

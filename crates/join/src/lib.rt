@@ -12,7 +12,6 @@ ghost use Rattle.join.specs.Sources.{is_accepted, draw_row, draw_rows};
 
 use command::{Outcome, Refusal, Size};
 use item::ItemRow;
-use merge::Decision;
 
 // What a row needs: nothing where it is no source.
 #[tactic(auto, using(crate::proofs::Ways::row_needs))]
@@ -129,10 +128,8 @@ pub fn draw_merge(
         (number_of result) (codes_told result) (numbers_told result)
         codes.old codes.new numbers.old numbers.new }
 {
-    match merge::decide(rows, n) {
-        Decision::Refused(refusal) => Err(refusal),
-        Decision::Joined(m) => join_rows(rows, m, items, codes, numbers),
-    }
+    let m = merge::decide(rows, n)?;
+    join_rows(rows, m, items, codes, numbers)
 }
 
 // What the merge of the first n rows needs, or why it is refused.
@@ -140,8 +137,6 @@ pub fn draw_merge(
 pub fn merge_need(rows: &[u32], n: usize, items: &[f32]) -> Outcome<Size>
     ensures { mapped pair_of result ≡ need_of (draw_merge rows.now n items.now) }
 {
-    match merge::decide(rows, n) {
-        Decision::Refused(refusal) => Err(refusal),
-        Decision::Joined(m) => rows_need(rows, m, items),
-    }
+    let m = merge::decide(rows, n)?;
+    rows_need(rows, m, items)
 }

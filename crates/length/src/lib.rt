@@ -26,14 +26,14 @@ fn is_there(least: Option<f32>, pen: Pen) -> bool
 pub fn walk(codes: &[u8], numbers: &[f32], least: Option<f32>) -> Outcome<(bool, usize, f32)>
     ensures { result ≡ walk_from least start_pen 0 codes.now numbers.now }
 {
-    let mut pen = measure::start();
+    let mut pen = Pen::start();
     let mut place = 0;
     for i in 0..codes.len() {
         if is_there(least, pen) {
             return Ok((true, i, pen.length));
         }
         let (command, next) = reader::read_command(codes[i], numbers, place)?;
-        pen = measure::step(pen, command);
+        pen = pen.step(command);
         place = next;
     }
     if is_there(least, pen) {

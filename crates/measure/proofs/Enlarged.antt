@@ -18,15 +18,14 @@ use Rattle.ieee.proofs.Each.{each_split}
 use Rattle.point.specs.declared.Point.{Point}
 use Rattle.curve.specs.Curve.{distance, quad_length, cubic_length}
 use Rattle.curve.proofs.Enlarged.{PointTwin, distance_twin, quad_twin, cubic_twin}
-use Rattle.measure.specs.declared.Place.{Place}
-use Rattle.measure.specs.declared.Place.TheVariants.{Nowhere, At}
+use Rattle.std.specs.Prelude.{Option, Some, None}
 use Rattle.measure.specs.declared.Pen.{Pen}
 use Rattle.measure.specs.Length.{start_pen, added, move_to, arrive, line_to, quad_to, cubic_to, closing, close, step, steps, length_after, path_length}
 
 -- both nowhere, or at a point and at its multiple
-pub data PlaceTwin (k q b : ℕ) : Place → Place → Type 0 where
-  nowhere : PlaceTwin k q b Nowhere Nowhere
-  at : {p p' : Point} → PointTwin k q b p p' → PlaceTwin k q b (At p) (At p')
+pub data PlaceTwin (k q b : ℕ) : Option Point → Option Point → Type 0 where
+  nowhere : PlaceTwin k q b None None
+  at : {p p' : Point} → PointTwin k q b p p' → PlaceTwin k q b (Some p) (Some p')
 
 -- the length, the last point and the contour's start; the length's grid is finer than that of the points
 pub record PenTwin (k q b : ℕ) (p p' : Pen) : Type 0 where
@@ -48,7 +47,7 @@ SegmentTwin k q b f f' = (p p' : Point) → PointTwin k q b p p' → Twin k (q +
 
 module _ {k q b : ℕ} (Q : q + 56 ≤ 149) (B : b + 55 + k ≤ 127) where
   -- ---- one segment, from wherever the pen is
-  added_twin : {l l' : Float} {p p' : Place} (f f' : Point → Float) → Twin k (q + 56) (b + 55) l l' → PlaceTwin k q b p p' → SegmentTwin k q b f f'
+  added_twin : {l l' : Float} {p p' : Option Point} (f f' : Point → Float) → Twin k (q + 56) (b + 55) l l' → PlaceTwin k q b p p' → SegmentTwin k q b f f'
       → Twin k (q + 56) (b + 55) (added l p f) (added l' p' f')
   unfolding added
   added_twin f f' L nowhere F = L
@@ -80,7 +79,7 @@ module _ {k q b : ℕ} (Q : q + 56 ≤ 149) (B : b + 55 + k ≤ 127) where
     cubic_to_twin {c} {c'} {d} {d'} {e} {e'} C D E =
         segment_twin (λ s. cubic_length s c d e) (λ s. cubic_length s c' d' e') E (λ s s' S. cubic_twin k q b Q (omega arith) S C D E 32 (le_refl 32))
 
-    closing_twin : {s s' : Place} → PlaceTwin k q b s s' → Twin k (q + 56) (b + 55) (closing p.length p.point s) (closing p'.length p'.point s')
+    closing_twin : {s s' : Option Point} → PlaceTwin k q b s s' → Twin k (q + 56) (b + 55) (closing p.length p.point s) (closing p'.length p'.point s')
     unfolding closing
     closing_twin nowhere = P.length_twin
     closing_twin (at {p = e} {p' = e'} E) = added_twin (λ s. distance s e) (λ s. distance s e') P.length_twin P.point_twin (λ s s' S. distance_twin k q b Q (omega arith) S E)

@@ -26,8 +26,7 @@ use Rattle.point.specs.declared.Point.{Point}
 use Rattle.curve.specs.Curve.{distance, quad_length_after, cubic_length_after, quad_length, cubic_length}
 use Rattle.curve.proofs.Rising.{Inside, distance_bounded, distance_plus}
 use Rattle.curve.proofs.Lengths.{quad_bounded, quad_plus, quad_rise, cubic_bounded, cubic_plus, cubic_rise}
-use Rattle.measure.specs.declared.Place.{Place}
-use Rattle.measure.specs.declared.Place.TheVariants.{Nowhere, At}
+use Rattle.std.specs.Prelude.{Option, Some, None}
 use Rattle.measure.specs.declared.Pen.{Pen}
 use Rattle.measure.specs.Length.{start_pen, added, move_to, arrive, line_to, quad_to, cubic_to, closing, close, step, steps, length_after, path_length}
 
@@ -63,9 +62,9 @@ longer length s R S =
     }
 
 -- ---- places and segments between points at most 2 ^ 22
-abbrev pub PlaceInside : Place → Type 0
-PlaceInside Nowhere = Unit {0}
-PlaceInside (At p) = Inside (2 ^ 22) p
+abbrev pub PlaceInside : Option Point → Type 0
+PlaceInside None = Unit {0}
+PlaceInside (Some p) = Inside (2 ^ 22) p
 
 line_segment : (p q : Point) → Inside (2 ^ 22) p → Inside (2 ^ 22) q → Segment (distance p q)
 line_segment p q P Q = record {
@@ -85,10 +84,10 @@ cubic_segment p c d q P C D Q = record {
   plus = cubic_plus 22 (lit≤ tt) p c d q P C D Q 32 (le_refl 32);
 }
 
-added_grown : (length : Float) (place : Place) (segment : Point → Float) → Running length → PlaceInside place → ((p : Point) → Inside (2 ^ 22) p → Segment (segment p)) → Grown length (added length place segment)
+added_grown : (length : Float) (place : Option Point) (segment : Point → Float) → Running length → PlaceInside place → ((p : Point) → Inside (2 ^ 22) p → Segment (segment p)) → Grown length (added length place segment)
 unfolding added
-added_grown length Nowhere segment R P S = still length R
-added_grown length (At p) segment R P S = longer length (segment p) R (S p P)
+added_grown length None segment R P S = still length R
+added_grown length (Some p) segment R P S = longer length (segment p) R (S p P)
 
 -- ---- the pen
 pub record SoundPen (pen : Pen) : Type 0 where
@@ -121,9 +120,9 @@ close_after : (pen : Pen) → SoundPen pen → After pen (close pen)
 unfolding close
 close_after pen P = let g = go pen.start P.start_inside in record { sound = record { running = g.running; point_inside = P.start_inside; start_inside = P.start_inside }; rise = g.rise }
   where
-    go : (s : Place) → PlaceInside s → Grown pen.length (closing pen.length pen.point s)
-    go Nowhere S = unfold closing in still pen.length P.running
-    go (At s) S = unfold closing in added_grown pen.length pen.point (λ (p : Point). distance p s) P.running P.point_inside (λ (p : Point) (I : Inside (2 ^ 22) p). line_segment p s I S)
+    go : (s : Option Point) → PlaceInside s → Grown pen.length (closing pen.length pen.point s)
+    go None S = unfold closing in still pen.length P.running
+    go (Some s) S = unfold closing in added_grown pen.length pen.point (λ (p : Point). distance p s) P.running P.point_inside (λ (p : Point) (I : Inside (2 ^ 22) p). line_segment p s I S)
 
 step_after : (pen : Pen) (c : PathCommand) → SoundPen pen → AllBounded (2 ^ 22) (coordinates_of c) → After pen (step pen c)
 unfolding step move_to line_to quad_to cubic_to
@@ -182,9 +181,9 @@ take_step : (cs : List PathCommand) (i : ℕ) → i < length cs → length_after
 unfolding length_after steps
 take_step cs i h = ap (steps start_pen) (take-suc cs i Close h) ∙ steps_append start_pen (take i cs) (get_or cs i Close ∷ [])
 
-added_at : (length : Float) (place : Place) (p : Point) (segment : Point → Float) → place ≡ At p → added length place segment ≡ length ⊕ segment p
+added_at : (length : Float) (place : Option Point) (p : Point) (segment : Point → Float) → place ≡ Some p → added length place segment ≡ length ⊕ segment p
 unfolding added
-added_at length place p segment e = ap (λ (z : Place). added length z segment) e
+added_at length place p segment e = ap (λ (z : Option Point). added length z segment) e
 
 -- ---- inside a curve: the length before it and the first n of its chords
 module _ (length : Float) (R : Running length) where
@@ -238,7 +237,7 @@ module _ (cs : List PathCommand) (W : all_within command_limit (numbers_of cs) �
   length_rise i j h = steps_rise start_pen cs i j h start_sound (within→commands cs W)
 
   -- at the command of place i, which starts at the point p
-  module _ (i : ℕ) (p : Point) (here : (length_after (take i cs)).point ≡ At p) where
+  module _ (i : ℕ) (p : Point) (here : (length_after (take i cs)).point ≡ Some p) where
     here_running : Running (path_length (take i cs))
     unfolding path_length
     here_running = (take_sound i).running

@@ -5,22 +5,21 @@ use lib.ListN.{length}
 use Rattle.command.specs.declared.PathCommand.{PathCommand}
 use Rattle.command.specs.declared.PathCommand.TheVariants.{Move, Line, Cubic, Close, Quad}
 use Rattle.point.specs.declared.Point.{Point}
-use Rattle.measure.specs.declared.Place.{Place}
-use Rattle.measure.specs.declared.Place.TheVariants.{Nowhere, At}
+use Rattle.std.specs.Prelude.{Option, Some, None}
 use Rattle.measure.specs.declared.Pen.{Pen}
 use Rattle.ieee.specs.Single.{Single}
 use Rattle.ieee.proofs.Single.{add_single, zero_single}
 use Rattle.measure.specs.Length as measure
 
-added_single : (length : Float) (place : Place) (segment : Point → Float) → Single length → Single (measure.added length place segment)
+added_single : (length : Float) (place : Option Point) (segment : Point → Float) → Single length → Single (measure.added length place segment)
 unfolding measure.added
-added_single length Nowhere segment L = L
-added_single length (At p) segment L = add_single length (segment p)
+added_single length None segment L = L
+added_single length (Some p) segment L = add_single length (segment p)
 
-closing_single : (length : Float) (point start : Place) → Single length → Single (measure.closing length point start)
+closing_single : (length : Float) (point start : Option Point) → Single length → Single (measure.closing length point start)
 unfolding measure.closing
-closing_single length point Nowhere L = L
-closing_single length point (At s) L = added_single length point _ L
+closing_single length point None L = L
+closing_single length point (Some s) L = added_single length point _ L
 
 step_single : (pen : Pen) (c : PathCommand) → Single pen.length → Single (measure.step pen c).length
 unfolding measure.step measure.move_to measure.line_to measure.quad_to measure.cubic_to measure.close measure.arrive

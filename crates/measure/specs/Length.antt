@@ -1,31 +1,29 @@
 -- The length of a path: `approx_path_length` of drawing_paths.rs. Definitions only.
-use Rattle.std.specs.Prelude.{List, [], ◌∷◌, Float}
+use Rattle.std.specs.Prelude.{List, [], ◌∷◌, Option, Some, None, Float}
 use Rattle.ieee.specs.Literal.{zero32}
 use Rattle.command.specs.declared.PathCommand.{PathCommand}
 use Rattle.command.specs.declared.PathCommand.TheVariants.{Move, Line, Cubic, Close, Quad}
 use Rattle.point.specs.declared.Point.{Point}
 use Rattle.ieee.specs.Operators.{◌⊕◌}
 use Rattle.curve.specs.Curve.{distance, quad_length, cubic_length}
-use Rattle.measure.specs.declared.Place.{Place}
-use Rattle.measure.specs.declared.Place.TheVariants.{Nowhere, At}
 use Rattle.measure.specs.declared.Pen.{Pen}
 
 -- before the first command: no length, no point, no contour
 unfoldable pub start_pen : Pen
-start_pen = record { length = zero32; point = Nowhere; start = Nowhere }
+start_pen = record { length = zero32; point = None; start = None }
 
 -- The length after a segment that is this long from each point. Without a point it adds nothing.
-unfoldable pub added : Float → Place → (Point → Float) → Float
-added length Nowhere segment = length
-added length (At p) segment = length ⊕ segment p
+unfoldable pub added : Float → Option Point → (Point → Float) → Float
+added length None segment = length
+added length (Some p) segment = length ⊕ segment p
 
 -- a move starts a contour
 unfoldable pub move_to : Pen → Point → Pen
-move_to pen next = record { length = pen.length; point = At next; start = At next }
+move_to pen next = record { length = pen.length; point = Some next; start = Some next }
 
 -- Lines and curves end at a point and leave the contour's start, if it has one.
 unfoldable pub arrive : Pen → Point → Float → Pen
-arrive pen next length = record { length = length; point = At next; start = pen.start }
+arrive pen next length = record { length = length; point = Some next; start = pen.start }
 
 unfoldable pub line_to : Pen → Point → Pen
 unfolding arrive added
@@ -40,10 +38,10 @@ unfolding arrive added
 cubic_to pen control1 control2 next = arrive pen next (added pen.length pen.point (λ p. cubic_length p control1 control2 next))
 
 -- A close adds the way back to the contour's start, if there is one, and goes there. Without a start it adds nothing, and clears the point.
-unfoldable pub closing : Float → Place → Place → Float
+unfoldable pub closing : Float → Option Point → Option Point → Float
 unfolding added
-closing length point Nowhere = length
-closing length point (At s) = added length point (λ p. distance p s)
+closing length point None = length
+closing length point (Some s) = added length point (λ p. distance p s)
 
 unfoldable pub close : Pen → Pen
 unfolding closing

@@ -1,2 +1,3 @@
 -- The length of a path.
 pub mod Length
+pub mod Segment

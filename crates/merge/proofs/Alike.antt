@@ -2,7 +2,8 @@
 -- It reads nothing past the row number.
 -- So altering a hidden row's place, mark or count within the rules for a row changes no decision.
 -- Assumes nothing.
-use Rattle.std.specs.Prelude.{Ok, Err}
+use Rattle.std.specs.Prelude.{Option, None, Some, Ok, Err}
+use Rattle.std.specs.List.{list_all}
 use mathlib.Core.Path.{◌≡◌, refl, sym, ap, ◌∙◌}
 use mathlib.Core.Bool.{Bool, true, false, cond, ◌&&◌}
 use mathlib.Core.List.{List, ◌∷◌}
@@ -13,11 +14,9 @@ use borrow.Author.Tests.{le-ltb}
 use Rattle.command.specs.declared.Refusal.TheVariants.{NotMergeable}
 use Rattle.item.specs.declared.ItemRow.{ItemRow}
 use Rattle.item.specs.Rows.{is_visible, is_listed}
-use Rattle.nest.specs.Lists.{rows_from, each_row}
+use Rattle.nest.specs.Lists.{rows_from}
 use Rattle.nest.proofs.Rows.{rows_read}
 use Rattle.nest.proofs.Alike.{Same, Alike, ends, goes, group_alike, nested_alike, shallow_alike}
-use Rattle.merge.specs.declared.Scan.{Scan}
-use Rattle.merge.specs.declared.Scan.TheVariants.{Nowhere, At}
 use Rattle.merge.specs.Flat.{is_union_row, is_source_row, source_count, sources_from, precedes, scan_from, follows, clean_after, late_from}
 use Rattle.merge.specs.Decision.{ruling, decision}
 use Rattle.merge.proofs.Flat.{settled, flat_ruling, ruling_flat}
@@ -51,8 +50,8 @@ scan_alike : {rs qs : List ItemRow} (i k : ℕ) → Alike rs qs → scan_from i 
 unfolding scan_from
 scan_alike i k ends = refl
 scan_alike i k (goes {r} {q} {rs} {qs} s a) =
-    (λ j. cond (union_alike s j) (At i k) (cond (precedes_alike s a j) (scan_from (i + 1) (k + cond (source_alike s j) 1 0) rs) Nowhere))
-    ∙ ap (λ (t : Scan). cond (is_union_row q) (At i k) (cond (precedes q qs) t Nowhere)) (scan_alike (i + 1) (k + source_count q) a)
+    (λ j. cond (union_alike s j) (Some (i, k)) (cond (precedes_alike s a j) (scan_from (i + 1) (k + cond (source_alike s j) 1 0) rs) None))
+    ∙ ap (λ (t : Option (ℕ × ℕ)). cond (is_union_row q) (Some (i, k)) (cond (precedes q qs) t None)) (scan_alike (i + 1) (k + source_count q) a)
 
 late_alike : {rs qs : List ItemRow} (clean : Bool) → Alike rs qs → late_from clean rs ≡ late_from clean qs
 unfolding late_from
@@ -77,15 +76,15 @@ drop_alike zero a = a
 drop_alike (suc m) ends = ends
 drop_alike (suc m) (goes s a) = drop_alike m a
 
-settled_alike : {rs qs : List ItemRow} (s : Scan) → Alike rs qs → settled s rs ≡ settled s qs
+settled_alike : {rs qs : List ItemRow} (s : Option (ℕ × ℕ)) → Alike rs qs → settled s rs ≡ settled s qs
 unfolding settled
-settled_alike Nowhere a = refl
-settled_alike (At m c) a =
+settled_alike None a = refl
+settled_alike (Some (m, c)) a =
     λ j. cond (leb 2 c && late_alike true (drop_alike (m + 1) a) j) (Ok (sources_alike 0 (take_alike m a) j)) (Err NotMergeable)
 
 pub flat_alike : {rs qs : List ItemRow} → Alike rs qs → flat_ruling rs ≡ flat_ruling qs
 unfolding flat_ruling
-flat_alike {rs} {qs} a = ap (λ (s : Scan). settled s rs) (scan_alike 0 0 a) ∙ settled_alike (scan_from 0 0 qs) a
+flat_alike {rs} {qs} a = ap (λ (s : Option (ℕ × ℕ)). settled s rs) (scan_alike 0 0 a) ∙ settled_alike (scan_from 0 0 qs) a
 
 -- ---- the decision
 
@@ -93,7 +92,7 @@ pub ruling_alike : (rows rows' : List ℕ) (n : ℕ) → Alike (rows_from rows 0
 ruling_alike rows rows' n a = ruling_flat rows n ∙ flat_alike a ∙ sym (ruling_flat rows' n)
 
 pub decision_alike : (rows rows' : List ℕ) (n : ℕ) → length rows ≡ length rows' → Alike (rows_from rows 0 n) (rows_from rows' 0 n)
-    → each_row is_listed (rows_from rows 0 n) ≡ each_row is_listed (rows_from rows' 0 n) → decision rows n ≡ decision rows' n
+    → list_all is_listed (rows_from rows 0 n) ≡ list_all is_listed (rows_from rows' 0 n) → decision rows n ≡ decision rows' n
 unfolding decision
 decision_alike rows rows' n l a listed = rw (l, shallow_alike a, listed, nested_alike 0 a, ruling_alike rows rows' n a)
 

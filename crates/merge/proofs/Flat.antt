@@ -4,7 +4,7 @@
 --     no_scan, scanned  what a scan of the rows says of the items
 --     ruling_flat       so the rule on items is the rule on rows
 -- Assumes nothing.
-use Rattle.std.specs.Prelude.{Ok, Err}
+use Rattle.std.specs.Prelude.{Option, None, Some, Ok, Err}
 use mathlib.Core.Path.{◌≡◌, refl, sym, ap, ap₂, ◌∙◌}
 use mathlib.Core.Bool.{Bool, true, false, cond, not, ◌&&◌, ◌||◌, true≢false, and-true, and-false, and-eq-true_iff}
 use mathlib.Core.List.{List, [], ◌∷◌}
@@ -12,18 +12,19 @@ use Prim.Native.Nat.{ℕ, zero, suc, ◌+◌, ◌-◌, ◌<◌, ◌≤◌}
 use native.Mathlib.Omega.{arith}
 use lib.Dec.{leb, eqb}
 use lib.ListN.{length, take, drop}
-use borrow.Author.Tests.{eqb-true, le-ltb}
+use borrow.Author.Tests.{le-ltb}
 use Rattle.command.specs.declared.Refusal.{Refusal}
 use Rattle.command.specs.declared.Refusal.TheVariants.{NotMergeable}
 use Rattle.command.specs.Outcomes.{Outcome, ◌gives◌, checked}
+use Rattle.item.specs.declared.Kind.{Kind}
+use Rattle.item.specs.declared.Kind.TheVariants.{Group, Transform, Merge}
 use Rattle.item.specs.declared.ItemRow.{ItemRow}
+use Rattle.item.specs.Kinds.{is_style_kind}
 use Rattle.item.specs.Rows.{item_row, is_visible, is_source, is_group, is_transform, is_style, is_merge}
 use Rattle.nest.specs.Lists.{rows_from}
 use Rattle.nest.specs.Items.{more, items_at, items_of}
 use Rattle.nest.specs.Flat.{children_empty, group_empty}
 use Rattle.nest.proofs.Items.{children_are}
-use Rattle.merge.specs.declared.Scan.{Scan}
-use Rattle.merge.specs.declared.Scan.TheVariants.{Nowhere, At}
 use Rattle.merge.specs.Rule.{Entry, entries, is_merge_entry, is_union, is_source_entry, no_new_sources, may_precede, may_follow}
 use Rattle.merge.specs.Rule.{found, before, up_to, after, early, late, sources, joins}
 use Rattle.merge.specs.Flat.{is_top, is_union_row, is_source_row, sources_from, precedes, scan_from, follows, clean_after, late_from}
@@ -89,7 +90,12 @@ module _ (i : ℕ) (r : ItemRow) (rs : List ItemRow) (h : eqb r.depth 0 ≡ true
 -- a group at depth 0 that is visible may not follow
 group_stops : (r : ItemRow) (clean : Bool) → is_visible r ≡ true → is_group r ≡ true
     → (not (is_visible r) || is_transform r || is_style r || (is_merge r && clean)) ≡ false
-group_stops r clean v g = let k : r.kind ≡ 5 = eqb-true r.kind 5 g in rw (v, k)
+group_stops r clean v g = rw v (go r.kind g)
+  where
+    go : (k : Kind) → elim k [ Group ↦ true | _ ↦ false ] ≡ true
+        → (elim k [ Transform ↦ true | _ ↦ false ] || is_style_kind k || (elim k [ Merge ↦ true | _ ↦ false ] && clean)) ≡ false
+    go Group e = refl
+    go _ e = cc
 
 -- so the flag after a row that may follow is what the rule says of the items up to it
 clean_top : (i : ℕ) (r : ItemRow) (rs : List ItemRow) (back : List Entry) → eqb r.depth 0 ≡ true → may_follow back (entry_at i r rs) ≡ true
@@ -130,41 +136,41 @@ late_are (r ∷ rs) i back = late_top i r rs back (eqb r.depth 0) refl (late_are
 -- a scan at a row at depth 0 and at a deeper one
 scan_top : (i k : ℕ) (r : ItemRow) (rs : List ItemRow) → eqb r.depth 0 ≡ true
     → scan_from i k (r ∷ rs)
-    ≡ cond (is_union (entry_at i r rs)) (At i k)
-    (cond (may_precede (entry_at i r rs)) (scan_from (i + 1) (k + cond (is_source_entry (entry_at i r rs)) 1 0) rs) Nowhere)
+    ≡ cond (is_union (entry_at i r rs)) (Some (i, k))
+    (cond (may_precede (entry_at i r rs)) (scan_from (i + 1) (k + cond (is_source_entry (entry_at i r rs)) 1 0) rs) None)
 unfolding scan_from
 scan_top i k r rs h =
-    λ j. cond (union_top i r rs h j) (At i k) (cond (precedes_top i r rs h j) (scan_from (i + 1) (k + cond (source_top i r rs h j) 1 0) rs) Nowhere)
+    λ j. cond (union_top i r rs h j) (Some (i, k)) (cond (precedes_top i r rs h j) (scan_from (i + 1) (k + cond (source_top i r rs h j) 1 0) rs) None)
 
 scan_below : (i k : ℕ) (r : ItemRow) (rs : List ItemRow) → eqb r.depth 0 ≡ false → scan_from i k (r ∷ rs) ≡ scan_from (i + 1) (k + 0) rs
 unfolding scan_from precedes
 scan_below i k r rs h =
-    λ j. cond (below_is r h j && is_merge r && eqb r.mark 1) (At i k)
-    (cond (not (below_is r h j) || is_source r || is_transform r || group_empty r rs) (scan_from (i + 1) (k + cond (below_is r h j && is_source r) 1 0) rs) Nowhere)
+    λ j. cond (below_is r h j && is_merge r && eqb r.mark 1) (Some (i, k))
+    (cond (not (below_is r h j) || is_source r || is_transform r || group_empty r rs) (scan_from (i + 1) (k + cond (below_is r h j && is_source r) 1 0) rs) None)
 
-at_nowhere : {A : Type 0} {m c : ℕ} → At m c ≡ Nowhere → A
+at_nowhere : {A : Type 0} {m c : ℕ} → ◌≡◌ {A = Option (ℕ × ℕ)} (Some (m, c)) None → A
 at_nowhere e = let z : ◌≡◌ {A = ℕ} 0 1 = cc in absurd (omega arith)
 
-nowhere_at : {A : Type 0} {m c : ℕ} → Nowhere ≡ At m c → A
+nowhere_at : {A : Type 0} {m c : ℕ} → ◌≡◌ {A = Option (ℕ × ℕ)} None (Some (m, c)) → A
 nowhere_at e = let z : ◌≡◌ {A = ℕ} 0 1 = cc in absurd (omega arith)
 
 -- no merge item that stands after such items as may stand before it
-none_step : (e : Entry) (es : List Entry) (i k : ℕ) (s : Scan) (u p : Bool) → is_union e ≡ u → may_precede e ≡ p → cond u (At i k) (cond p s Nowhere) ≡ Nowhere
-    → (s ≡ Nowhere → (found es && early (before es)) ≡ false) → (found (e ∷ es) && early (before (e ∷ es))) ≡ false
+none_step : (e : Entry) (es : List Entry) (i k : ℕ) (s : Option (ℕ × ℕ)) (u p : Bool) → is_union e ≡ u → may_precede e ≡ p → cond u (Some (i, k)) (cond p s None) ≡ None
+    → (s ≡ None → (found es && early (before es)) ≡ false) → (found (e ∷ es) && early (before (e ∷ es))) ≡ false
 unfolding found early before
 none_step e es i k s true p U P h ih = at_nowhere h
 none_step e es i k s false true U P h ih = rw (U, P) (ih h)
 none_step e es i k s false false U P h ih = rw (U, P) (and-false (found es))
 
-none_top : (i k : ℕ) (r : ItemRow) (rs : List ItemRow) (b : Bool) → eqb r.depth 0 ≡ b → scan_from i k (r ∷ rs) ≡ Nowhere
-    → ((k' : ℕ) → scan_from (i + 1) k' rs ≡ Nowhere → (found (top_entries (i + 1) rs) && early (before (top_entries (i + 1) rs))) ≡ false)
+none_top : (i k : ℕ) (r : ItemRow) (rs : List ItemRow) (b : Bool) → eqb r.depth 0 ≡ b → scan_from i k (r ∷ rs) ≡ None
+    → ((k' : ℕ) → scan_from (i + 1) k' rs ≡ None → (found (top_entries (i + 1) rs) && early (before (top_entries (i + 1) rs))) ≡ false)
     → let es = cond b (entry_at i r rs ∷ top_entries (i + 1) rs) (top_entries (i + 1) rs) in (found es && early (before es)) ≡ false
 none_top i k r rs false h e ih = ih (k + 0) (sym (scan_below i k r rs h) ∙ e)
 none_top i k r rs true h e ih =
     none_step (entry_at i r rs) (top_entries (i + 1) rs) i k (scan_from (i + 1) (k + cond (is_source_entry (entry_at i r rs)) 1 0) rs)
     (is_union (entry_at i r rs)) (may_precede (entry_at i r rs)) refl refl (sym (scan_top i k r rs h) ∙ e) (ih (k + cond (is_source_entry (entry_at i r rs)) 1 0))
 
-no_scan : (rs : List ItemRow) (i k : ℕ) → scan_from i k rs ≡ Nowhere → (found (top_entries i rs) && early (before (top_entries i rs))) ≡ false
+no_scan : (rs : List ItemRow) (i k : ℕ) → scan_from i k rs ≡ None → (found (top_entries i rs) && early (before (top_entries i rs))) ≡ false
 unfolding top_entries found
 no_scan [] i k e = refl
 no_scan (r ∷ rs) i k e = none_top i k r rs (eqb r.depth 0) refl e (no_scan rs (i + 1))
@@ -182,12 +188,13 @@ record Scanned (i k m c : ℕ) (rs : List ItemRow) (es : List Entry) : Type 0 wh
   clean : (back : List Entry) → no_new_sources (up_to back es) ≡ true
 
 -- the row r is the merge row
-stop : (i k m c : ℕ) (r : ItemRow) (rs : List ItemRow) → is_union (entry_at i r rs) ≡ true → At i k ≡ At m c
+stop : (i k m c : ℕ) (r : ItemRow) (rs : List ItemRow) → is_union (entry_at i r rs) ≡ true → ◌≡◌ {A = Option (ℕ × ℕ)} (Some (i, k)) (Some (m, c))
     → Scanned i k m c (r ∷ rs) (entry_at i r rs ∷ top_entries (i + 1) rs)
 unfolding found early before after sources sources_from no_new_sources up_to
 stop i k m c r rs U e =
-    let p : i ≡ m = cc in
-    let q : k ≡ c = cc in
+    let t : ◌≡◌ {A = ℕ × ℕ} (i, k) (m, c) = cc in
+    let p : i ≡ m = ap (λ (x : ℕ × ℕ). x.0) t in
+    let q : k ≡ c = ap (λ (x : ℕ × ℕ). x.1) t in
     record {
       place = 0;
       row = omega arith;
@@ -239,21 +246,21 @@ skip i k m c r rs es h s = record {
 
 scan_step : (i k m c : ℕ) (r : ItemRow) (rs : List ItemRow) (u p : Bool)
     → eqb r.depth 0 ≡ true → is_union (entry_at i r rs) ≡ u → may_precede (entry_at i r rs) ≡ p
-    → cond u (At i k) (cond p (scan_from (i + 1) (k + cond (is_source_entry (entry_at i r rs)) 1 0) rs) Nowhere) ≡ At m c
-    → ((k' : ℕ) → scan_from (i + 1) k' rs ≡ At m c → Scanned (i + 1) k' m c rs (top_entries (i + 1) rs))
+    → cond u (Some (i, k)) (cond p (scan_from (i + 1) (k + cond (is_source_entry (entry_at i r rs)) 1 0) rs) None) ≡ Some (m, c)
+    → ((k' : ℕ) → scan_from (i + 1) k' rs ≡ Some (m, c) → Scanned (i + 1) k' m c rs (top_entries (i + 1) rs))
     → Scanned i k m c (r ∷ rs) (entry_at i r rs ∷ top_entries (i + 1) rs)
 scan_step i k m c r rs true p h U P e ih = stop i k m c r rs U e
 scan_step i k m c r rs false true h U P e ih = pass i k m c r rs h U P (ih (k + cond (is_source_entry (entry_at i r rs)) 1 0) e)
 scan_step i k m c r rs false false h U P e ih = nowhere_at e
 
-scanned_top : (i k m c : ℕ) (r : ItemRow) (rs : List ItemRow) (b : Bool) → eqb r.depth 0 ≡ b → scan_from i k (r ∷ rs) ≡ At m c
-    → ((k' : ℕ) → scan_from (i + 1) k' rs ≡ At m c → Scanned (i + 1) k' m c rs (top_entries (i + 1) rs))
+scanned_top : (i k m c : ℕ) (r : ItemRow) (rs : List ItemRow) (b : Bool) → eqb r.depth 0 ≡ b → scan_from i k (r ∷ rs) ≡ Some (m, c)
+    → ((k' : ℕ) → scan_from (i + 1) k' rs ≡ Some (m, c) → Scanned (i + 1) k' m c rs (top_entries (i + 1) rs))
     → Scanned i k m c (r ∷ rs) (cond b (entry_at i r rs ∷ top_entries (i + 1) rs) (top_entries (i + 1) rs))
 scanned_top i k m c r rs false h e ih = skip i k m c r rs (top_entries (i + 1) rs) h (ih (k + 0) (sym (scan_below i k r rs h) ∙ e))
 scanned_top i k m c r rs true h e ih =
     scan_step i k m c r rs (is_union (entry_at i r rs)) (may_precede (entry_at i r rs)) h refl refl (sym (scan_top i k r rs h) ∙ e) ih
 
-scanned : (rs : List ItemRow) (i k m c : ℕ) → scan_from i k rs ≡ At m c → Scanned i k m c rs (top_entries i rs)
+scanned : (rs : List ItemRow) (i k m c : ℕ) → scan_from i k rs ≡ Some (m, c) → Scanned i k m c rs (top_entries i rs)
 unfolding scan_from top_entries
 scanned [] i k m c e = nowhere_at e
 scanned (r ∷ rs) i k m c e = scanned_top i k m c r rs (eqb r.depth 0) refl e (λ k' e'. scanned rs (i + 1) k' m c e')
@@ -261,9 +268,9 @@ scanned (r ∷ rs) i k m c e = scanned_top i k m c r rs (eqb r.depth 0) refl e (
 -- ---- the rule
 
 -- what the code makes of a scan
-unfoldable pub settled : Scan → List ItemRow → Outcome (List ℕ)
-settled Nowhere rs = Err NotMergeable
-settled (At m c) rs = cond (leb 2 c && late_from true (drop (m + 1) rs)) (Ok (sources_from 0 (take m rs))) (Err NotMergeable)
+unfoldable pub settled : Option (ℕ × ℕ) → List ItemRow → Outcome (List ℕ)
+settled None rs = Err NotMergeable
+settled (Some (m, c)) rs = cond (leb 2 c && late_from true (drop (m + 1) rs)) (Ok (sources_from 0 (take m rs))) (Err NotMergeable)
 
 unfoldable pub flat_ruling : List ItemRow → Outcome (List ℕ)
 unfolding settled
@@ -278,10 +285,10 @@ not_holds : (b : Bool) (r : Refusal) (o : Outcome (List ℕ)) → checked ((not 
 not_holds true r o = refl
 not_holds false r o = refl
 
-entries_settled : (rs : List ItemRow) (s : Scan) → scan_from 0 0 rs ≡ s → entry_ruling (top_entries 0 rs) ≡ settled s rs
+entries_settled : (rs : List ItemRow) (s : Option (ℕ × ℕ)) → scan_from 0 0 rs ≡ s → entry_ruling (top_entries 0 rs) ≡ settled s rs
 unfolding entry_ruling settled joins
-entries_settled rs Nowhere e = rw (no_scan rs 0 0 e)
-entries_settled rs (At m c) e =
+entries_settled rs None e = rw (no_scan rs 0 0 e)
+entries_settled rs (Some (m, c)) e =
     let s = scanned rs 0 0 m c e in
     let p : s.place ≡ m = omega arith in
     let q : suc s.place ≡ m + 1 = omega arith in
@@ -317,5 +324,5 @@ take_rows rows zero i left h = refl
 take_rows rows (suc j) i zero h = absurd (omega arith)
 take_rows rows (suc j) i (suc left) h = ap (λ (rs : List ItemRow). item_row rows i ∷ rs) (take_rows rows j (i + 1) left (omega arith))
 
-pub scan_inside : (rs : List ItemRow) (m c : ℕ) → scan_from 0 0 rs ≡ At m c → m < length rs
+pub scan_inside : (rs : List ItemRow) (m c : ℕ) → scan_from 0 0 rs ≡ Some (m, c) → m < length rs
 scan_inside rs m c e = let s = scanned rs 0 0 m c e in omega arith

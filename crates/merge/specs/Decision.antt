@@ -1,12 +1,11 @@
 -- What a merge comes to on its rows: a refusal, or which rows are joined. Definitions only.
 use Rattle.std.specs.Prelude.{ℕ, ◌*◌, ◌≤◌, not, List, [], ◌∷◌, ltb, eqb, length, Ok, Err}
+use Rattle.std.specs.List.{list_all}
 use Rattle.command.specs.declared.Refusal.TheVariants.{Empty, TooMany, Unlisted, BrokenNesting, NotMergeable, OutOfBounds}
-use Rattle.command.specs.Outcomes.{Outcome, Check, ◌gives◌, checked}
+use Rattle.command.specs.Outcomes.{Outcome, mapped, Check, ◌gives◌, checked}
 use Rattle.item.specs.Rows.{is_listed}
-use Rattle.nest.specs.Lists.{rows_from, each_row, is_shallow, is_nested}
+use Rattle.nest.specs.Lists.{rows_from, is_shallow, is_nested}
 use Rattle.nest.specs.Items.{items_of}
-use Rattle.merge.specs.declared.Decision.{Decision}
-use Rattle.merge.specs.declared.Decision.TheVariants.{Refused, Joined}
 use Rattle.merge.specs.Rule.{entries, before, sources, joins}
 use Rattle.merge.specs.Flat.{sources_from}
 
@@ -19,13 +18,13 @@ ruling rows n =
 
 -- the checks on the rows, each over all rows before the next: 1, 2 for the row number, 12, 2 for depth, 4, 6
 unfoldable pub row_checks : List ℕ → ℕ → List Check
-unfolding rows_from each_row is_listed is_nested
+unfolding rows_from is_listed is_nested
 row_checks rows n =
     (eqb n 0 gives Empty)
     ∷ (ltb 256 n gives TooMany)
     ∷ (ltb (length rows) (6 * n) gives OutOfBounds)
-    ∷ (not (each_row is_shallow (rows_from rows 0 n)) gives TooMany)
-    ∷ (not (each_row is_listed (rows_from rows 0 n)) gives Unlisted)
+    ∷ (not (list_all is_shallow (rows_from rows 0 n)) gives TooMany)
+    ∷ (not (list_all is_listed (rows_from rows 0 n)) gives Unlisted)
     ∷ (not (is_nested 0 (rows_from rows 0 n)) gives BrokenNesting)
     ∷ []
 
@@ -35,12 +34,11 @@ unfolding row_checks ruling
 decision rows n = checked (row_checks rows n) (ruling rows n)
 
 -- what an answer of `decide` says: its refusal, or the sources before its merge row
-unfoldable pub said : List ℕ → Decision → Outcome (List ℕ)
+unfoldable pub said : List ℕ → Outcome ℕ → Outcome (List ℕ)
 unfolding rows_from sources_from
-said rows (Refused r) = Err r
-said rows (Joined m) = Ok (sources_from 0 (rows_from rows 0 m))
+said rows answer = mapped (λ (m : ℕ). sources_from 0 (rows_from rows 0 m)) answer
 
 -- what a decision leaves to the joining
-abbrev pub Settled : List ℕ → Decision → Type 0
-Settled rows (Refused r) = Unit
-Settled rows (Joined m) = (m ≤ 256) × (6 * m ≤ length rows)
+abbrev pub Settled : List ℕ → Outcome ℕ → Type 0
+Settled rows (Err r) = Unit {0}
+Settled rows (Ok m) = (m ≤ 256) × (6 * m ≤ length rows)

@@ -1,10 +1,10 @@
 -- The merge rule on flat rows: what the code works out. proofs/Flat.antt shows that it is the rule on nested items. Definitions only.
-use Rattle.std.specs.Prelude.{ℕ, ◌+◌, Bool, true, cond, not, ◌&&◌, ◌||◌, List, [], ◌∷◌, eqb}
+use Rattle.std.specs.Prelude.{ℕ, ◌+◌, Bool, true, cond, not, ◌&&◌, ◌||◌, List, [], ◌∷◌, eqb, leb, drop, Option, None, Some, Ok, Err}
+use Rattle.command.specs.declared.Refusal.TheVariants.{NotMergeable}
+use Rattle.command.specs.Outcomes.{Outcome}
 use Rattle.item.specs.declared.ItemRow.{ItemRow}
 use Rattle.item.specs.Rows.{is_visible, is_source, is_transform, is_style, is_merge}
 use Rattle.nest.specs.Flat.{group_empty}
-use Rattle.merge.specs.declared.Scan.{Scan}
-use Rattle.merge.specs.declared.Scan.TheVariants.{Nowhere, At}
 
 -- a visible row at depth 0
 abbrev pub is_top : ItemRow → Bool
@@ -30,10 +30,10 @@ unfolding group_empty
 precedes r rs = not (is_top r) || is_source r || is_transform r || group_empty r rs
 
 -- the merge row and the number of sources before it, of rows that start at row i with k sources before them
-unfoldable pub scan_from : ℕ → ℕ → List ItemRow → Scan
+unfoldable pub scan_from : ℕ → ℕ → List ItemRow → Option (ℕ × ℕ)
 unfolding precedes
-scan_from i k [] = Nowhere
-scan_from i k (r ∷ rs) = cond (is_union_row r) (At i k) (cond (precedes r rs) (scan_from (i + 1) (k + source_count r) rs) Nowhere)
+scan_from i k [] = None
+scan_from i k (r ∷ rs) = cond (is_union_row r) (Some (i, k)) (cond (precedes r rs) (scan_from (i + 1) (k + source_count r) rs) None)
 
 -- a row may follow the merge row, where `clean` tells that an mm in its place would have no new sources
 abbrev pub follows : Bool → ItemRow → Bool
@@ -47,3 +47,14 @@ clean_after clean row = cond (is_top row) (is_merge row || (is_transform row && 
 unfoldable pub late_from : Bool → List ItemRow → Bool
 late_from clean [] = true
 late_from clean (r ∷ rs) = follows clean r && late_from (clean_after clean r) rs
+
+-- what a scan of rows comes to: the merge row, where two sources or more stand before it, and after it only what may follow
+unfoldable pub chosen : Option (ℕ × ℕ) → List ItemRow → Outcome ℕ
+unfolding late_from
+chosen None rs = Err NotMergeable
+chosen (Some (m, c)) rs = cond (leb 2 c && late_from true (drop (m + 1) rs)) (Ok m) (Err NotMergeable)
+
+-- the merge row of the rows
+unfoldable pub merge_row : List ItemRow → Outcome ℕ
+unfolding scan_from chosen
+merge_row rs = chosen (scan_from 0 0 rs) rs

@@ -1,204 +1,139 @@
 // Which rows a merge joins, settled on the rows alone.
 #![tactic(auto)]
 
-ghost use Rattle.std.specs.Prelude.{◌≡◌, true, ◌+◌, ◌-◌, ◌*◌, ◌≤◌, ◌<◌, length};
-ghost use Rattle.item.specs.Rows.{item_row};
-ghost use Rattle.nest.specs.Lists.{rows_from};
-ghost use Rattle.merge.specs.Flat.{is_top, is_union_row, is_source_row, source_count, precedes, follows, clean_after, scan_from, late_from};
-ghost use Rattle.merge.specs.Decision.{decision, ruling, said, Settled};
+ghost use Rattle.std.specs.Prelude.{◌≡◌, ◌<◌, IfSome, length, map, true};
+ghost use Rattle.item.specs.Rows.{row_of};
+ghost use Rattle.merge.specs.Flat.{is_top, is_union_row, is_source_row, precedes, follows, clean_after, scan_from, late_from, merge_row};
+ghost use Rattle.merge.specs.Decision.{decision, said, Settled};
 
-use command::Refusal;
-use item::ItemRow;
-
-// Where the merge row is, with the number of sources before it; or no such row with only rows before it that may be there.
-#[derive(Clone, Copy)]
-pub enum Scan {
-    Nowhere,
-    At(usize, usize),
-}
-
-// A refusal, or the merge row: the sources before it are joined.
-#[derive(Clone, Copy)]
-pub enum Decision {
-    Refused(Refusal),
-    Joined(usize),
-}
+use command::{Outcome, Refusal};
+use item::{ItemRow, Kind};
 
 // Whether a row is visible at depth 0.
 fn is_top(row: ItemRow) -> bool
     ensures { result ≡ is_top row }
 {
-    if row.hidden == 0 {
-        row.depth == 0
-    } else {
-        false
-    }
+    row.hidden == 0 && row.depth == 0
 }
 
 // Whether a row is a visible mm of mode 1 at depth 0.
 fn is_union(row: ItemRow) -> bool
     ensures { result ≡ is_union_row row }
 {
-    if is_top(row) {
-        if row.kind == 13 { row.mark == 1 } else { false }
-    } else {
-        false
-    }
+    is_top(row) && row.kind == Kind::Merge && row.mark == 1
 }
 
 // Whether a row is a visible source at depth 0.
 pub fn is_source(row: ItemRow) -> bool
     ensures { result ≡ is_source_row row }
 {
-    if is_top(row) {
-        if row.kind >= 1 { row.kind <= 4 } else { false }
-    } else {
-        false
-    }
+    is_top(row) && row.kind.is_source()
 }
 
-// How many sources a row is.
-fn source_count(row: ItemRow) -> usize
-    ensures { result ≡ source_count row }
+// Whether a row, with the rows after it, may stand before the merge row.
+#[tactic(auto, unfolding(crate::specs::Flat::precedes))]
+fn may_precede(row: ItemRow, after: &[[u32; 6]]) -> bool
+    ensures { result ≡ precedes row (map row_of after.now) }
 {
-    if is_source(row) { 1 } else { 0 }
+    !is_top(row)
+        || row.kind.is_source()
+        || row.kind == Kind::Transform
+        || nest::group_empty(row, after)
 }
 
-// Whether row i of n may stand before the merge row.
-fn may_precede(rows: &[u32], n: usize, i: usize) -> bool
-    requires { (i < n) × (6 * n ≤ length rows.now) }
-    ensures { result ≡ precedes (item_row rows.now i) (rows_from rows.now (i + 1) (n - (i + 1))) }
+// The place of the merge row, with the number of sources before it, where only rows that may be there stand before it.
+#[tactic(auto, unfolding(crate::specs::Flat::scan_from))]
+fn find_merge(rows: &[[u32; 6]]) -> Option<(usize, usize)>
+    ensures value { result ≡ scan_from 0 0 (map row_of rows.now) }
+    ensures inside { IfSome result (λ found. found.0 < length rows.now) }
 {
-    let row = item::item_row(rows, i);
-    if is_top(row) {
-        if is_source(row) {
-            return true;
-        }
-        if row.kind == 6 {
-            return true;
-        }
-        nest::group_empty(rows, i, n - i)
-    } else {
-        true
-    }
-}
-
-// Looks for the merge row.
-fn find_merge(rows: &[u32], n: usize) -> Scan
-    requires { 6 * n ≤ length rows.now }
-    ensures { result ≡ scan_from 0 0 (rows_from rows.now 0 n) }
-{
-    let mut i: usize = 0;
-    let mut count: usize = 0;
-    while i < n {
-        let row = item::item_row(rows, i);
+    let mut count = 0;
+    for (i, entries) in rows.iter().enumerate() {
+        let row = ItemRow::from(*entries);
         if is_union(row) {
-            return Scan::At(i, count);
+            return Some((i, count));
         }
-        if may_precede(rows, n, i) {
-            count += source_count(row);
-            i += 1;
-        } else {
-            return Scan::Nowhere;
+        if !may_precede(row, &rows[i + 1..]) {
+            return None;
+        }
+        if is_source(row) {
+            count += 1;
         }
     }
-    Scan::Nowhere
+    None
 }
 
 // Whether a row may follow the merge row, where `clean` tells that an mm here would have no new sources.
 fn may_follow(row: ItemRow, clean: bool) -> bool
     ensures { result ≡ follows clean row }
 {
-    if is_top(row) {
-        if row.kind == 6 {
-            return true;
-        }
-        if row.kind == 13 {
-            return clean;
-        }
-        if row.kind >= 7 { row.kind <= 12 } else { false }
-    } else {
-        true
-    }
+    !is_top(row)
+        || row.kind == Kind::Transform
+        || row.kind.is_style()
+        || (row.kind == Kind::Merge && clean)
 }
 
 // The same of an mm right after such a row.
 fn is_clean_after(row: ItemRow, clean: bool) -> bool
     ensures { result ≡ clean_after clean row }
 {
-    if is_top(row) {
-        if row.kind == 13 {
-            return true;
-        }
-        if row.kind == 6 { clean } else { false }
-    } else {
-        clean
+    if !is_top(row) {
+        return clean;
+    }
+    match row.kind {
+        Kind::Merge => true,
+        Kind::Transform => clean,
+        _ => false,
     }
 }
 
-// Whether the rows from `start` on may follow the merge row before them.
-fn all_follow(rows: &[u32], n: usize, start: usize) -> bool
-    requires { (start ≤ n) × (6 * n ≤ length rows.now) }
-    ensures { result ≡ late_from true (rows_from rows.now start (n - start)) }
+// Whether the rows may follow the merge row before them.
+#[tactic(auto, unfolding(crate::specs::Flat::late_from))]
+fn all_follow(rows: &[[u32; 6]]) -> bool
+    ensures { result ≡ late_from true (map row_of rows.now) }
 {
-    let mut i = start;
     let mut clean = true;
-    while i < n {
-        let row = item::item_row(rows, i);
-        if may_follow(row, clean) {
-            clean = is_clean_after(row, clean);
-            i += 1;
-        } else {
+    for entries in rows {
+        let row = ItemRow::from(*entries);
+        if !may_follow(row, clean) {
             return false;
         }
+        clean = is_clean_after(row, clean);
     }
     true
 }
 
-// The merge rule, on rows that keep the rules before it: `build_supported_merge_path` of drawing_paths.rs, up to the drawing.
-fn rule(rows: &[u32], n: usize) -> Decision
-    requires { (n ≤ 256) × (6 * n ≤ length rows.now) }
-    ensures { (said rows.now result ≡ ruling rows.now n) × Settled rows.now result }
+// The merge row, by the merge rule on rows that keep the rules before it: `build_supported_merge_path` of drawing_paths.rs, up to the drawing.
+#[tactic(auto, unfolding(crate::specs::Flat::merge_row, crate::specs::Flat::chosen))]
+fn rule(rows: &[[u32; 6]]) -> Outcome<usize>
+    ensures { result ≡ merge_row (map row_of rows.now) }
 {
-    match find_merge(rows, n) {
-        Scan::Nowhere => Decision::Refused(Refusal::NotMergeable),
-        Scan::At(m, count) => {
-            if count < 2 {
-                return Decision::Refused(Refusal::NotMergeable);
-            }
-            if all_follow(rows, n, m + 1) {
-                Decision::Joined(m)
-            } else {
-                Decision::Refused(Refusal::NotMergeable)
-            }
-        }
+    match find_merge(rows) {
+        Some((m, count)) if count >= 2 && all_follow(&rows[m + 1..]) => Ok(m),
+        _ => Err(Refusal::NotMergeable),
     }
 }
 
-// What a merge of the first n rows comes to on the rows alone.
-pub fn decide(rows: &[u32], n: usize) -> Decision
+// What a merge of the first n rows comes to on the rows alone: a refusal, or the merge row, the sources before which are joined.
+#[tactic(auto, unfolding(crate::specs::Decision::said, crate::specs::Decision::decision))]
+pub fn decide(rows: &[u32], n: usize) -> Outcome<usize>
     ensures { (said rows.now result ≡ decision rows.now n) × Settled rows.now result }
 {
     if n == 0 {
-        return Decision::Refused(Refusal::Empty);
+        return Err(Refusal::Empty);
     }
     if n > 256 {
-        return Decision::Refused(Refusal::TooMany);
+        return Err(Refusal::TooMany);
     }
-    if rows.len() < 6 * n {
-        return Decision::Refused(Refusal::OutOfBounds);
+    let rows = nest::first_rows(rows, n).ok_or(Refusal::OutOfBounds)?;
+    if !nest::each_shallow(rows) {
+        return Err(Refusal::TooMany);
     }
-    if nest::each_shallow(rows, n) {
-        if nest::each_listed(rows, n) {
-            if nest::is_nested(rows, n) {
-                rule(rows, n)
-            } else {
-                Decision::Refused(Refusal::BrokenNesting)
-            }
-        } else {
-            Decision::Refused(Refusal::Unlisted)
-        }
-    } else {
-        Decision::Refused(Refusal::TooMany)
+    if !nest::each_listed(rows) {
+        return Err(Refusal::Unlisted);
     }
+    if !nest::is_nested(rows) {
+        return Err(Refusal::BrokenNesting);
+    }
+    rule(rows)
 }

@@ -4,9 +4,10 @@ use mathlib.Core.Path.{◌≡◌, refl}
 use mathlib.Core.Bool.{true}
 use mathlib.Core.List.{List, [], ◌∷◌}
 use Prim.Native.Nat.{ℕ}
+use Rattle.std.specs.List.{list_all}
 use Rattle.item.specs.declared.ItemRow.{ItemRow}
 use Rattle.item.specs.Rows.{is_visible}
-use Rattle.nest.specs.Lists.{each_row, is_shallow, deepest_after, is_nested}
+use Rattle.nest.specs.Lists.{is_shallow, deepest_after, is_nested}
 use Rattle.nest.specs.Flat.{children_empty, group_empty}
 
 pub record Same (r q : ItemRow) : Type 0 where
@@ -38,7 +39,6 @@ unfolding is_nested
 nested_alike m ends = refl
 nested_alike m (goes {r} {q} {rs} {qs} s a) = rw (s.kind, s.depth, nested_alike (deepest_after q) a)
 
-pub shallow_alike : {rs qs : List ItemRow} → Alike rs qs → each_row is_shallow rs ≡ each_row is_shallow qs
-unfolding each_row
+pub shallow_alike : {rs qs : List ItemRow} → Alike rs qs → list_all is_shallow rs ≡ list_all is_shallow qs
 shallow_alike ends = refl
 shallow_alike (goes {r} {q} {rs} {qs} s a) = rw (s.depth, shallow_alike a)

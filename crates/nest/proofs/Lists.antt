@@ -6,16 +6,7 @@ use Prim.Native.Nat.{ℕ, ◌≤◌}
 use lib.Dec.{leb}
 use borrow.Author.Tests.{leb-true}
 use Rattle.item.specs.declared.ItemRow.{ItemRow}
-use Rattle.nest.specs.Lists.{each_row, deepest_after, is_nested}
-
-module _ (test : ItemRow → Bool) (r : ItemRow) (rs : List ItemRow) (e : each_row test (r ∷ rs) ≡ true) where
-  pub each_first : test r ≡ true
-  unfolding each_row
-  each_first = ((and-eq-true_iff (test r) (each_row test rs)).0 e).0
-
-  pub each_rest : each_row test rs ≡ true
-  unfolding each_row
-  each_rest = ((and-eq-true_iff (test r) (each_row test rs)).0 e).1
+use Rattle.nest.specs.Lists.{deepest_after, is_nested}
 
 module _ (deepest : ℕ) (r : ItemRow) (rs : List ItemRow) (e : is_nested deepest (r ∷ rs) ≡ true) where
   pub nested_first : r.depth ≤ deepest

@@ -8,11 +8,6 @@ unfoldable pub rows_from : List ℕ → ℕ → ℕ → List ItemRow
 rows_from rows i zero = []
 rows_from rows i (suc left) = item_row rows i ∷ rows_from rows (i + 1) left
 
--- each row passes a test
-unfoldable pub each_row : (ItemRow → Bool) → List ItemRow → Bool
-each_row test [] = true
-each_row test (r ∷ rs) = test r && each_row test rs
-
 -- at most 8 deep
 abbrev pub is_shallow : ItemRow → Bool
 is_shallow row = leb row.depth 8

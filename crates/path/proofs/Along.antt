@@ -7,17 +7,18 @@ use Prim.Native.Nat.{ℕ, zero, suc, ◌+◌, ◌-◌, ◌≤◌, ◌<◌}
 use native.Mathlib.Nat.{not-suc-le-zero, le_of_suc-le-suc}
 use native.Mathlib.Omega.{arith}
 use lib.Ieee.{Float}
-use lib.ListN.{length, get_or, length-append}
+use lib.ListN.{length, get_or, drop, length-append}
+use lib.Dec.{eqb}
 use mir.Val.{Fits}
 use mir.Syntax.{w64}
 use Rattle.command.specs.declared.PathCommand.{PathCommand}
-use Rattle.command.specs.declared.PathCommand.TheVariants.{Move, Close}
+use Rattle.command.specs.declared.PathCommand.TheVariants.{Move, Line, Close}
 use Rattle.command.specs.Commands.{coordinates_of, numbers_of}
 use Rattle.command.proofs.Lists.{numbers_append}
 use Rattle.path.specs.declared.BezierVertex.{BezierVertex}
-use Rattle.path.specs.Path.{vertices_from, bezier_segment, bezier_segments, bezier_path}
-use Rattle.path.specs.Between.{segments_along}
-use Rattle.path.proofs.Paths.{segments_length, segments_at, last_of, segments_more}
+use Rattle.path.specs.Path.{vertex_at, vertices_of, vertices_from, bezier_segment, bezier_segments, bezier_path, path_commands}
+use Rattle.path.specs.Between.{segments_along, path_along}
+use Rattle.path.proofs.Paths.{shift, segments_length, segments_at, last_of, segments_more}
 
 pub next_fits : (count : ℕ) → count ≤ 1024 → (k : ℕ) → k < count → Fits w64 (k + 1)
 next_fits count few k h = record { fits = omega arith }
@@ -89,6 +90,49 @@ module _ (vertex : ℕ → BezierVertex) where
       ∙ ap (λ (cs : List PathCommand). start ∷ cs) (append_assoc (bezier_segments first bs) (bezier_segment (last_of first bs) first ∷ []) (Close ∷ []))
       ∙ ap (λ (z : BezierVertex). start ∷ (bezier_segments first bs ++ bezier_segment z first ∷ Close ∷ []))
       (last_from vertex 0 (suc m) ∙ ap vertex (omega arith)))
+
+module _ (vertex : ℕ → BezierVertex) (count : ℕ) where
+  abbrev pub begin : PathCommand
+  begin = Move (vertex 0).x (vertex 0).y
+
+  -- one vertex is a move and a line to it, open or closed
+  pub along_one : (c : Bool) → count ≡ 1 → path_along c vertex count ≡ begin ∷ Line (vertex 0).x (vertex 0).y ∷ []
+  unfolding path_along bezier_path vertices_from
+  along_one true e = rw e
+  along_one false e = rw e
+
+  -- an open path is a move and the segments between the vertices
+  pub along_open : 1 < count → path_along false vertex count ≡ begin ∷ segments_along vertex count
+  unfolding path_along
+  along_open h = open_is vertex count h
+
+  -- a closed one has the segment back to the first vertex and a close after these
+  pub along_closed : 1 < count
+      → path_along true vertex count ≡ (begin ∷ segments_along vertex count) ++ bezier_segment (vertex (count - 1)) (vertex 0) ∷ Close ∷ []
+  unfolding path_along
+  along_closed h = round_is vertex count h
+
+-- ---- the vertices of a list of numbers
+from_next : (vertex : ℕ → BezierVertex) (k n : ℕ) → vertices_from (λ (j : ℕ). vertex (suc j)) k n ≡ vertices_from vertex (suc k) n
+unfolding vertices_from
+from_next vertex k zero = refl
+from_next vertex k (suc n) = ap (λ (l : List BezierVertex). vertex (suc k) ∷ l) (from_next vertex (suc k) n)
+
+from_same : (f g : ℕ → BezierVertex) → ((j : ℕ) → f j ≡ g j) → (k n : ℕ) → vertices_from f k n ≡ vertices_from g k n
+unfolding vertices_from
+from_same f g same k zero = refl
+from_same f g same k (suc n) = ap₂ (λ (a : BezierVertex) (l : List BezierVertex). a ∷ l) (same k) (from_same f g same (suc k) n)
+
+listed : (n : ℕ) (v : List Float) → vertices_of n v ≡ vertices_from (vertex_at v) 0 n
+unfolding vertices_of vertices_from
+listed zero v = refl
+listed (suc n) v =
+    ap (λ (l : List BezierVertex). vertex_at v 0 ∷ l)
+    (listed n (drop 6 v) ∙ from_same (vertex_at (drop 6 v)) (λ (j : ℕ). vertex_at v (suc j)) (shift v) 0 n ∙ from_next (vertex_at v) 0 n)
+
+pub commands_along : (closed count : ℕ) (v : List Float) → path_commands closed v count ≡ path_along (eqb closed 1) (vertex_at v) count
+unfolding path_commands path_along
+commands_along closed count v = ap (bezier_path (eqb closed 1)) (listed count v)
 
 -- the numbers of a closed path are those of the path left open and of the segment back
 pub round_numbers : (cs left : List PathCommand) (back : PathCommand) → cs ≡ left ++ back ∷ Close ∷ [] → numbers_of cs ≡ numbers_of left ++ coordinates_of back

@@ -7,6 +7,5 @@ pub mod Sound
 pub mod Accepted
 pub mod Single
 pub mod Segment
-pub mod Between
 pub mod Ways
 pub mod Along

@@ -1,16 +1,15 @@
--- The segments of a path without the one that closes it. This is a word of counting's and writing's own way: what these promise is said by
--- `path_commands` alone. Definitions only.
-use Rattle.std.specs.Prelude.{ℕ, ◌-◌, List, Float, drop}
+-- The path of vertices that are known by number, and its segments without the one that closes it. Definitions only.
+use Rattle.std.specs.Prelude.{ℕ, ◌-◌, Bool, List}
 use Rattle.command.specs.declared.PathCommand.{PathCommand}
 use Rattle.path.specs.declared.BezierVertex.{BezierVertex}
-use Rattle.path.specs.Path.{vertex_at, vertices_of, vertices_from, bezier_segments}
+use Rattle.path.specs.Path.{vertices_from, bezier_segments, bezier_path}
 
--- the segments between the first `count` vertices of v, in order
-unfoldable pub segments_between : List Float → ℕ → List PathCommand
-unfolding bezier_segments vertices_of
-segments_between v count = bezier_segments (vertex_at v 0) (vertices_of (count - 1) (drop 6 v))
+-- the path through the first `count` vertices
+unfoldable pub path_along : Bool → (ℕ → BezierVertex) → ℕ → List PathCommand
+unfolding bezier_path vertices_from
+path_along closed vertex count = bezier_path closed (vertices_from vertex 0 count)
 
--- the same of vertices that are worked out by number
+-- the segments between them, in order: a word of counting's and writing's own way
 unfoldable pub segments_along : (ℕ → BezierVertex) → ℕ → List PathCommand
 unfolding bezier_segments vertices_from
 segments_along vertex count = bezier_segments (vertex 0) (vertices_from vertex 1 (count - 1))

@@ -1,8 +1,9 @@
-// A vertex list as path commands: its vertices, and the segment between two, as in `build_bezier_path` of drawing_paths.rs.
+// The vertices of a path, and the segment between two, as in `build_bezier_path` of drawing_paths.rs.
 #![tactic(auto)]
 
-ghost use Rattle.std.specs.Prelude.{◌≡◌, cond, ◌&&◌, ◌+◌, ◌*◌, ◌^◌, ◌<◌, ◌≤◌, length};
-ghost use Rattle.path.specs.Path.{vertex_at, approx_eq, is_line, bezier_segment, bezier_count};
+ghost use Rattle.std.specs.Prelude.{◌≡◌, ℕ, cond, ◌&&◌, ◌+◌, ◌*◌, ◌^◌, ◌<◌, ◌≤◌, length};
+ghost use Rattle.path.specs.declared.BezierVertex.{BezierVertex};
+ghost use Rattle.path.specs.Path.{vertex_at, approx_eq, is_line, bezier_segment, bezier_count, Sound};
 
 use command::PathCommand;
 
@@ -15,13 +16,6 @@ pub struct BezierVertex {
     pub iy: f32,
     pub ox: f32,
     pub oy: f32,
-}
-
-// A vertex that a walk over a path has come to, and the place after the numbers on the way to it.
-#[derive(Clone, Copy)]
-pub struct Reached {
-    pub vertex: BezierVertex,
-    pub at: usize,
 }
 
 // Within 1e-4, equality included.
@@ -38,39 +32,93 @@ fn approx_eq_point(ax: f32, ay: f32, bx: f32, by: f32) -> bool
     approx_eq(ax, bx) & approx_eq(ay, by)
 }
 
-// The vertex at a place of the list. Its tangents are read first: by this order the compiler adds them to the two points of a
-// segment as one vector.
+impl BezierVertex {
+    // Whether the segment to the next vertex is a line: both control points are near their ends.
+    pub fn is_line_to(self, next: BezierVertex) -> bool
+        ensures { result ≡ is_line self next }
+    {
+        approx_eq_point(self.x, self.y, self.x + self.ox, self.y + self.oy)
+            & approx_eq_point(next.x + next.ix, next.y + next.iy, next.x, next.y)
+    }
+
+    // The segment to the next vertex.
+    pub fn segment_to(self, next: BezierVertex) -> PathCommand
+        ensures { result ≡ bezier_segment self next }
+    {
+        if self.is_line_to(next) {
+            PathCommand::Line(next.x, next.y)
+        } else {
+            PathCommand::Cubic(
+                self.x + self.ox,
+                self.y + self.oy,
+                next.x + next.ix,
+                next.y + next.iy,
+                next.x,
+                next.y,
+            )
+        }
+    }
+}
+
+// The vertex at a place of a list of numbers.
 pub fn vertex_at(vertices: &[f32], k: usize) -> BezierVertex
     requires { 6 * k + 6 ≤ length vertices.now }
     ensures { result ≡ vertex_at vertices.now k }
 {
     let i = 6 * k;
     BezierVertex {
+        x: vertices[i],
+        y: vertices[i + 1],
         ix: vertices[i + 2],
         iy: vertices[i + 3],
         ox: vertices[i + 4],
         oy: vertices[i + 5],
-        x: vertices[i],
-        y: vertices[i + 1],
     }
 }
 
-// Whether the segment between two vertices is a line: both control points are near their ends.
-pub fn is_line(a: BezierVertex, b: BezierVertex) -> bool
-    ensures { result ≡ is_line a b }
-{
-    approx_eq_point(a.x, a.y, a.x + a.ox, a.y + a.oy)
-        & approx_eq_point(b.x + b.ix, b.y + b.iy, b.x, b.y)
+// Vertices that a path goes through, each known by its number.
+pub trait Outline {
+    ghost count: { Self → ℕ };
+
+    ghost vertex: { Self → ℕ → BezierVertex };
+
+    // How many there are.
+    fn count(&self) -> usize
+        ensures { result ≡ count self.now };
+
+    // Vertex k, counted from 0.
+    fn vertex(&self, k: usize) -> BezierVertex
+        requires { k < count self.now }
+        ensures { result ≡ vertex self.now k };
+
+    ghost some: { (outline : Self) → 0 < count outline };
+
+    ghost few: { (outline : Self) → count outline ≤ 1024 };
 }
 
-// The segment between two vertices.
-pub fn bezier_segment(a: BezierVertex, b: BezierVertex) -> PathCommand
-    ensures { result ≡ bezier_segment a b }
-{
-    if is_line(a, b) {
-        PathCommand::Line(b.x, b.y)
-    } else {
-        PathCommand::Cubic(a.x + a.ox, a.y + a.oy, b.x + b.ix, b.y + b.iy, b.x, b.y)
+// The vertices of a list of numbers, which has six for each.
+#[derive(Clone, Copy)]
+pub struct Vertices<'a> {
+    pub numbers: &'a [f32],
+    pub count: usize,
+    ghost sound: { Sound numbers.now count },
+}
+
+impl Outline for Vertices<'_> {
+    ghost count = { λ list. list.count };
+
+    ghost vertex = { λ list. vertex_at list.numbers.now };
+
+    ghost some = { λ list. list.sound.some };
+
+    ghost few = { λ list. list.sound.few };
+
+    fn count(&self) -> usize {
+        self.count
+    }
+
+    fn vertex(&self, k: usize) -> BezierVertex {
+        vertex_at(self.numbers, k)
     }
 }
 

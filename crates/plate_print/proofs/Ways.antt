@@ -1,6 +1,6 @@
 -- What each way out of a function of this crate owes, as the code meets it: a premise for each test and for each call's result.
 -- Assumes nothing.
-use mathlib.Core.Path.{◌≡◌, refl, sym, ap, ◌∙◌}
+use mathlib.Core.Path.{◌≡◌, refl, sym, ap, ◌∙◌, subst}
 use mathlib.Core.Bool.{true, true≢false}
 use mathlib.Core.List.{List, [], ◌∷◌, ◌++◌, map, append-nil}
 use Prim.Native.Nat.{ℕ, zero, suc, ◌+◌, ◌-◌, ◌*◌, ◌/◌, ◌≤◌, ◌<◌}
@@ -8,14 +8,17 @@ use native.Mathlib.Numerals.{add-one}
 use native.Mathlib.Omega.{arith}
 use lib.Ieee.{Float, binary32, nan, inf, fin, is_nan, to_bits}
 use lib.ListN.{length, set, get_or, take, drop, length-set, length-append, length-drop, length-map, drop_of_length-le}
-use lib.Seq.{sets, drop-cons, set_comm, length-sets}
+use lib.Seq.{sets, drop-cons, set_comm, length-sets, length-take-le}
 use Rattle.ieee.proofs.Pattern.{is_number}
 use Rattle.command.specs.declared.Refusal.{Refusal}
 use Rattle.command.specs.Buffers.{onto}
 use Rattle.command.specs.Refusals.{refusal_number}
 use Rattle.command.proofs.Buffers.{sets_append, sets_onto}
 use Rattle.reader.specs.Read.{size_of_code}
+use Rattle.reader.proofs.Commands.{size_most}
 use Rattle.judge.specs.Lists.{place_of}
+use Rattle.plate_print.specs.declared.Text.{Text}
+use Rattle.plate_print.specs.Appended.{Appended, HasRoom}
 use Rattle.plate_print.specs.Lines.{digit_of, leading_digit, leading, column, columns, line, numbers_line, refusal_text, list_lines, list_text}
 use Rattle.plate_print.proofs.Columns.{leading_length, column_length}
 use Rattle.plate_print.proofs.Lines.{columns_length, line_length, numbers_line_length, list_most, list_text_length}
@@ -99,8 +102,8 @@ column_split (suc width) value h =
     ap (λ (w : ℕ). leading w (value / 10) ++ digit_of value ∷ []) less
 
 module _ (out : List ℕ) (at width value : ℕ) (h : 0 < width) where
-  pub column_place : at + (width - 1) + 1 ≡ at + width
-  column_place = omega arith
+  pub column_place : at + (width - 1) + 1 ≡ at + length (column width value)
+  column_place = omega (arith, column_length width value)
 
   pub column_stores : (out' : List ℕ) (b : ℕ) → out' ≡ sets out at (leading (width - 1) (value / 10)) → b ≡ digit_of value
       → set out' (at + (width - 1)) b ≡ sets out at (column width value)
@@ -113,201 +116,201 @@ module _ (out : List ℕ) (at width value : ℕ) (h : 0 < width) where
 
 pub ruleset column_ways = (column_place, column_stores)
 
--- ---- put_columns
--- the numbers still to print, printed on the buffer as it is, give all of them on the buffer as it was
-pub record Columns (out₀ : List ℕ) (at : ℕ) (numbers : List Float) (out : List ℕ) (next i : ℕ) : Type 0 where
-  pub bound : i ≤ length numbers
-  pub place : next ≡ at + 11 * i
-  pub same : length out ≡ length out₀
-  pub last : sets out next (columns (map (to_bits binary32) (drop i numbers))) ≡ sets out₀ at (columns (map (to_bits binary32) numbers))
+-- ---- texts that grow
+pub append_none : (a : Text) → Appended a a []
+append_none a = record { buffer = refl; stored = refl; place = omega arith }
 
-module _ (out₀ : List ℕ) (at : ℕ) (numbers : List Float) where
+module _ (a b : Text) (vs : List ℕ) (first : Appended a b vs) where
+  pub append_long : length b.out.now ≡ length a.out.now
+  append_long = ap length first.stored ∙ length-sets a.out.now a.at vs
+
+  pub append_room : (n m : ℕ) → length vs ≤ m → HasRoom a (m + n) → HasRoom b n
+  append_room n m l room = let p = first.place in let s = append_long in omega arith
+
+  pub append_two : (c : Text) (ws : List ℕ) → Appended b c ws → Appended a c (vs ++ ws)
+  append_two c ws next = record {
+    buffer = next.buffer ∙ first.buffer;
+    stored =
+        next.stored
+        ∙ ap (λ (k : ℕ). sets b.out.now k ws) first.place
+        ∙ ap (λ (l : List ℕ). sets l (a.at + length vs) ws) first.stored
+        ∙ sym (sets_append vs ws a.out.now a.at);
+    place = let p = first.place in let q = next.place in let l = length-append vs ws in omega arith;
+  }
+
+-- ---- put_columns
+-- the numbers still to print, printed on the text as it is, give all of them on the text as it was
+pub record Columns (a b : Text) (numbers : List Float) (i : ℕ) : Type 0 where
+  pub bound : i ≤ length numbers
+  pub room : HasRoom b (11 * (length numbers - i))
+  pub rest : (new : Text) → Appended b new (columns (map (to_bits binary32) (drop i numbers))) → Appended a new (columns (map (to_bits binary32) numbers))
+
+module _ (a : Text) (numbers : List Float) where
   abbrev texts : List Float → List ℕ
   texts v = columns (map (to_bits binary32) v)
 
   texts_split : (i : ℕ) → i < length numbers → texts (drop i numbers) ≡ column 11 (to_bits binary32 (get_or numbers i nan)) ++ texts (drop (i + 1) numbers)
   texts_split i h = rw (add-one, drop-cons numbers i nan h) (unfold columns in refl)
 
-  pub columns_start : Columns out₀ at numbers out₀ at 0
-  columns_start = record { bound = omega arith; place = omega arith; same = refl; last = refl }
+  pub columns_start : HasRoom a (11 * length numbers) → Columns a a numbers 0
+  columns_start h = record { bound = omega arith; room = omega arith; rest = λ new n. n }
 
-  module _ (out : List ℕ) (next i : ℕ) (w : Columns out₀ at numbers out next i) where
-    pub columns_room : i < length numbers → at + 11 * length numbers ≤ length out₀ → next + 11 ≤ length out
-    columns_room h room = let p = w.place in let s = w.same in omega arith
+  module _ (b : Text) (i : ℕ) (w : Columns a b numbers i) where
+    pub columns_room : i < length numbers → HasRoom b 11
+    columns_room h = let r = w.room in omega arith
 
-    pub columns_turn : i < length numbers → (n next' : ℕ) (out' : List ℕ) → n ≡ to_bits binary32 (get_or numbers i nan)
-        → next' ≡ next + 11 → out' ≡ sets out next (column 11 n) → Columns out₀ at numbers out' next' (i + 1)
-    columns_turn h n next' out' n_is next_is out_is =
-        let b = to_bits binary32 (get_or numbers i nan) in
-        let place : next' ≡ next + length (column 11 b) = next_is ∙ ap (λ (k : ℕ). next + k) (sym (column_length 11 b)) in
+    pub columns_turn : i < length numbers → (n : ℕ) (b' : Text) → n ≡ to_bits binary32 (get_or numbers i nan) → Appended b b' (column 11 n) → Columns a b' numbers (i + 1)
+    columns_turn h n b' n_is put =
+        let long : 11 + 11 * (length numbers - (i + 1)) ≡ 11 * (length numbers - i) = omega arith in
+        let r = w.room in
+        let l = column_length 11 n in
         record {
           bound = omega arith;
-          place = let p = w.place in omega arith;
-          same = ap length out_is ∙ length-sets out next (column 11 n) ∙ w.same;
-          last =
-              rw (out_is, place, n_is)
-              (sym (sets_append (column 11 b) (texts (drop (i + 1) numbers)) out next) ∙ ap (sets out next) (sym (texts_split i h)) ∙ w.last);
+          room = append_room b b' (column 11 n) put (11 * (length numbers - (i + 1))) 11 (omega arith) (omega arith);
+          rest = λ new more.
+              let P = λ (t : List ℕ). Appended b new t in
+              w.rest new
+              (subst P (ap (λ (k : ℕ). column 11 k ++ texts (drop (i + 1) numbers)) n_is ∙ sym (texts_split i h))
+              (append_two b b' (column 11 n) put new (texts (drop (i + 1) numbers)) more));
         }
 
-    pub columns_done : length numbers ≤ i → out ≡ sets out₀ at (columns (map (to_bits binary32) numbers))
+    pub columns_done : length numbers ≤ i → Appended a b (columns (map (to_bits binary32) numbers))
     unfolding columns
-    columns_done h = rw (drop_of_length-le numbers {i = i} h) at w.last
+    columns_done h =
+        let P = λ (v : List Float). Appended b b (columns (map (to_bits binary32) v)) in
+        w.rest b (subst P (sym (drop_of_length-le numbers {i = i} h)) (append_none b))
 
-    pub columns_end : length numbers ≤ i → next ≡ at + 11 * length numbers
-    columns_end h = let p = w.place in let b = w.bound in omega arith
-
-    pub columns_same : length out ≡ length out₀
-    columns_same = w.same
-
-pub ruleset columns_ways = (columns_start, columns_room, columns_turn, columns_done, columns_end, columns_same)
+pub ruleset columns_ways = (columns_start, columns_room, columns_turn, columns_done)
 
 -- ---- put_numbers_line, put_line
--- a code, numbers and a newline stored one after another
-line_stored : (out : List ℕ) (at code : ℕ) (ns : List ℕ)
-    → set (sets (sets out at (column 2 code)) (at + 2) (columns ns)) (at + 2 + 11 * length ns) 10 ≡ sets out at (line code ns)
-unfolding line
-line_stored out at code ns =
-    let vs = column 2 code in
-    let ws = columns ns in
-    let start : at + 2 ≡ at + length vs = ap (λ (k : ℕ). at + k) (sym (column_length 2 code)) in
-    let both : sets (sets out at vs) (at + 2) ws ≡ sets out at (vs ++ ws) = ap (λ (k : ℕ). sets (sets out at vs) k ws) start ∙ sym (sets_append vs ws out at) in
-    let end : at + 2 + 11 * length ns ≡ at + length (vs ++ ws) = omega (arith, length-append vs ws, column_length 2 code, columns_length ns) in
-    rw (both, end) (sym (sets_one (vs ++ ws) out at 10))
+module _ (a b c d : Text) (code code' : ℕ) (code_is : code' ≡ code) (first : Appended a b (column 2 code')) (last : Appended c d (10 ∷ [])) where
+  lined : (ns : List ℕ) → Appended b c (columns ns) → Appended a d (line code ns)
+  unfolding line
+  lined ns next =
+      let P = λ (k : ℕ). Appended a d (column 2 k ++ columns ns ++ 10 ∷ []) in
+      subst P code_is (append_two a c (column 2 code' ++ columns ns) (append_two a b (column 2 code') first c (columns ns) next) d (10 ∷ []) last)
 
--- After the code's columns and the numbers' the end is the newline's place; `last` and `next` are the buffer and the place after it.
-module _ (out out1 out2 last : List ℕ) (at start end next code : ℕ) (out1_is : out1 ≡ sets out at (column 2 code)) (start_is : start ≡ at + 2)
-    (last_is : last ≡ set out2 end 10) (next_is : next ≡ end + 1) where
-  module _ (v : List Float) (end_is : end ≡ start + 11 * length v) (out2_is : out2 ≡ sets out1 start (columns (map (to_bits binary32) v))) where
-    pub numbers_line_place : next ≡ at + length (numbers_line code v)
-    numbers_line_place = omega (arith, numbers_line_length code v)
+  pub numbers_lined : (v : List Float) → Appended b c (columns (map (to_bits binary32) v)) → Appended a d (numbers_line code v)
+  unfolding numbers_line
+  numbers_lined v next = lined (map (to_bits binary32) v) next
 
-    pub numbers_line_stores : last ≡ sets out at (numbers_line code v)
-    unfolding numbers_line
-    numbers_line_stores =
-        let end' : end ≡ at + 2 + 11 * length (map (to_bits binary32) v) = rw (length-map v (to_bits binary32)) (omega arith) in
-        rw (last_is, end', out2_is, start_is, out1_is) (line_stored out at code (map (to_bits binary32) v))
-
-  module _ (value : ℕ) (end_is : end ≡ start + 11) (out2_is : out2 ≡ sets out1 start (column 11 value)) where
-    pub line_place : next ≡ at + 14
-    line_place = omega arith
-
-    pub line_stores : last ≡ sets out at (line code (value ∷ []))
-    line_stores =
-        let one : columns (value ∷ []) ≡ column 11 value = unfold columns in append-nil (column 11 value) in
-        let end' : end ≡ at + 2 + 11 * length (value ∷ []) = omega arith in
-        rw (last_is, end', out2_is, start_is, out1_is, ← one) (line_stored out at code (value ∷ []))
+  pub value_lined : (value : ℕ) → Appended b c (column 11 value) → Appended a d (line code (value ∷ []))
+  value_lined value next =
+      let one : columns (value ∷ []) ≡ column 11 value = unfold columns in append-nil (column 11 value) in
+      let P = λ (t : List ℕ). Appended b c t in
+      lined (value ∷ []) (subst P (sym one) next)
 
 -- a line's parts have room
-module _ (out : List ℕ) (at code : ℕ) (v : List Float) (room : at + length (numbers_line code v) ≤ length out) where
-  pub code_room : at + 2 ≤ length out
-  code_room = omega (arith, numbers_line_length code v)
+module _ (a b : Text) (code n : ℕ) (first : Appended a b (column 2 code)) (room : HasRoom a (3 + 11 * n)) where
+  pub columns_fit : HasRoom b (11 * n + 1)
+  columns_fit = let l = column_length 2 code in append_room a b (column 2 code) first (11 * n + 1) 2 (omega arith) (omega arith)
 
-  module _ (out1 : List ℕ) (start : ℕ) (start_is : start ≡ at + 2) (same : length out1 ≡ length out) where
-    pub numbers_room : start + 11 * length v ≤ length out1
-    numbers_room = omega (arith, numbers_line_length code v)
-
-    pub newline_room : (out2 : List ℕ) (end : ℕ) → end ≡ start + 11 * length v → length out2 ≡ length out1 → end < length out2
-    newline_room out2 end end_is same' = omega (arith, numbers_line_length code v)
-
-pub ruleset line_ways = (numbers_line_place, numbers_line_stores, line_place, line_stores, code_room, numbers_room, newline_room)
+  pub newline_fits : (v : List Float) (c : Text) → length v ≡ n → Appended b c (columns (map (to_bits binary32) v)) → HasRoom c 1
+  newline_fits v c long next =
+      let l = columns_length (map (to_bits binary32) v) in
+      let m = length-map v (to_bits binary32) in
+      let r = columns_fit in
+      append_room b c (columns (map (to_bits binary32) v)) next 1 (11 * n) (omega arith) r
 
 -- ---- put_commands
--- the commands from place i on, printed with the rest of the numbers on the buffer as it is, give all of them on the buffer as it was; each has its numbers
-pub record Printing (codes : List ℕ) (numbers : List Float) (out₀ out : List ℕ) (at : ℕ) (rest : List Float) (i : ℕ) : Type 0 where
-  pub bound : i ≤ length codes
+-- the commands from place i on, printed with the rest of the numbers on the text as it is, give all of them on the text as it was; each has its numbers
+pub record Printing (codes : List ℕ) (numbers : List Float) (a b : Text) (rest : List Float) (i : ℕ) : Type 0 where
   pub there : place_of (length (drop i codes)) (drop i codes) ≤ length rest
-  pub same : length out ≡ length out₀
-  pub next : at + length (list_lines (drop i codes) rest) ≡ length (list_lines codes numbers)
-  pub last : sets out at (list_lines (drop i codes) rest) ≡ sets out₀ 0 (list_lines codes numbers)
+  pub room : HasRoom b (69 * length (drop i codes))
+  pub last : (new : Text) → Appended b new (list_lines (drop i codes) rest) → Appended a new (list_lines codes numbers)
 
-module _ (codes : List ℕ) (numbers : List Float) (out₀ : List ℕ) where
-  pub printing_start : place_of (length codes) codes ≤ length numbers → Printing codes numbers out₀ out₀ 0 numbers 0
-  printing_start h = record { bound = omega arith; there = h; same = refl; next = omega arith; last = refl }
+module _ (codes : List ℕ) (numbers : List Float) (a : Text) where
+  pub printing_start : place_of (length codes) codes ≤ length numbers → HasRoom a (69 * length codes) → Printing codes numbers a a numbers 0
+  printing_start h room = record { there = h; room = room; last = λ new n. n }
 
-  module _ (out : List ℕ) (at : ℕ) (rest : List Float) (i : ℕ) (p : Printing codes numbers out₀ out at rest i) where
+  module _ (b : Text) (rest : List Float) (i : ℕ) (p : Printing codes numbers a b rest i) where
     abbrev c : ℕ
     c = get_or codes i 0
 
-    module _ (h : i < length codes) where
+    module _ (h : i < length codes) (n : ℕ) (n_is : n ≡ size_of_code c) where
       codes_rest : drop i codes ≡ c ∷ drop (i + 1) codes
       codes_rest = rw (add-one, drop-cons codes i 0 h)
 
-      places : place_of (length (drop i codes)) (drop i codes) ≡ size_of_code c + place_of (length (drop (i + 1) codes)) (drop (i + 1) codes)
+      places : place_of (length (drop i codes)) (drop i codes) ≡ n + place_of (length (drop (i + 1) codes)) (drop (i + 1) codes)
       unfolding place_of
-      places = rw codes_rest
+      places = rw (codes_rest, n_is)
 
-      pub numbers_inside : size_of_code c ≤ length rest
+      pub numbers_inside : n ≤ length rest
       numbers_inside = omega (arith, p.there, places)
 
+      left : length (drop i codes) ≡ suc (length (drop (i + 1) codes))
+      left = ap length codes_rest
+
       -- the numbers of this command and those after them, as the code splits them
-      module _ (n : ℕ) (n_is : n ≡ size_of_code c) (own after : List Float) (own_is : own ≡ take n rest) (after_is : after ≡ drop n rest) where
+      module _ (own after : List Float) (own_is : own ≡ take n rest) (after_is : after ≡ drop n rest) where
+        few : length own ≤ 6
+        few = let l = ap length own_is ∙ length-take-le n rest numbers_inside in let m = size_most c in omega arith
+
+        pub printing_room : HasRoom b (3 + 11 * length own)
+        printing_room = let r = p.room in let l = left in let f = few in omega arith
+
         lines : list_lines (drop i codes) rest ≡ numbers_line c own ++ list_lines (drop (i + 1) codes) after
         unfolding list_lines
         lines = rw (codes_rest, own_is, after_is, n_is)
 
-        lines_length : length (list_lines (drop i codes) rest) ≡ length (numbers_line c own) + length (list_lines (drop (i + 1) codes) after)
-        lines_length = ap length lines ∙ length-append (numbers_line c own) (list_lines (drop (i + 1) codes) after)
-
-        pub printing_room : 69 * length codes ≤ length out₀ → at + length (numbers_line c own) ≤ length out
-        printing_room room = omega (arith, p.next, p.same, lines_length, list_most codes numbers)
-
-        pub printing_turn : (out' : List ℕ) (at' : ℕ) → at' ≡ at + length (numbers_line c own) → out' ≡ sets out at (numbers_line c own)
-            → Printing codes numbers out₀ out' at' after (i + 1)
-        printing_turn out' at' at_is out_is =
-            let left = list_lines (drop (i + 1) codes) after in
+        pub printing_turn : (b' : Text) → Appended b b' (numbers_line c own) → Printing codes numbers a b' after (i + 1)
+        printing_turn b' put =
             let long = ap length after_is ∙ length-drop n rest in
+            let l = numbers_line_length c own in
+            let f = few in
+            let r = p.room in
+            let e = left in
             record {
-              bound = omega arith;
               there = omega (arith, p.there, places, long);
-              same = ap length out_is ∙ length-sets out at (numbers_line c own) ∙ p.same;
-              next = omega (arith, p.next, lines_length);
-              last = rw (out_is, at_is) (sym (sets_append (numbers_line c own) left out at) ∙ ap (sets out at) (sym lines) ∙ p.last);
+              room = append_room b b' (numbers_line c own) put (69 * length (drop (i + 1) codes)) 69 (omega arith) (omega arith);
+              last = λ new more.
+                  let P = λ (t : List ℕ). Appended b new t in
+                  p.last new (subst P (sym lines) (append_two b b' (numbers_line c own) put new (list_lines (drop (i + 1) codes) after) more));
             }
 
-    module _ (h : length codes ≤ i) where
-      none : list_lines (drop i codes) rest ≡ []
-      unfolding list_lines
-      none = rw (drop_of_length-le codes {i = i} h)
-
-      pub printing_end : at ≡ length (list_lines codes numbers)
-      printing_end = omega (arith, p.next, ap length none)
-
-      pub printing_done : out ≡ sets out₀ 0 (list_lines codes numbers)
-      printing_done = ap (sets out at) (sym none) ∙ p.last
-
-    pub printing_same : length out ≡ length out₀
-    printing_same = p.same
-
-pub ruleset command_ways = (printing_start, numbers_inside, printing_room, printing_turn, printing_end, printing_done, printing_same)
+    pub printing_done : length codes ≤ i → Appended a b (list_lines codes numbers)
+    unfolding list_lines
+    printing_done h =
+        let none : list_lines (drop i codes) rest ≡ [] = rw (drop_of_length-le codes {i = i} h) in
+        let P = λ (t : List ℕ). Appended b b t in
+        p.last b (subst P (sym none) (append_none b))
 
 -- ---- print_refusal, print_answer
-module _ (refusal : Refusal) (out last : List ℕ) (n next : ℕ) (n_is : n ≡ refusal_number refusal) where
-  pub refusal_length : next ≡ 0 + 14 → next ≡ length (refusal_text refusal)
+module _ (a b : Text) (start : a.at ≡ 0) (text : List ℕ) (put : Appended a b text) (room : length text ≤ length a.out.now) where
+  pub text_length : b.at ≡ length text
+  text_length = let p = put.place in omega arith
+
+  pub text_printed : b.out.now ≡ onto text a.out.now
+  text_printed = put.stored ∙ ap (λ (k : ℕ). sets a.out.now k text) start ∙ sets_onto text a.out.now room
+
+module _ (a b : Text) (start : a.at ≡ 0) (refusal : Refusal) (n : ℕ) (n_is : n ≡ refusal_number refusal) (room : 14 ≤ length a.out.now) (put : Appended a b (line 8 (n ∷ []))) where
+  refused : Appended a b (refusal_text refusal)
   unfolding refusal_text
-  refusal_length e = omega (arith, line_length 8 (refusal_number refusal ∷ []))
+  refused = let P = λ (m : ℕ). Appended a b (line 8 (m ∷ [])) in subst P n_is put
 
-  pub refusal_printed : 14 ≤ length out → last ≡ sets out 0 (line 8 (n ∷ [])) → last ≡ onto (refusal_text refusal) out
+  refusal_fits : length (refusal_text refusal) ≤ length a.out.now
   unfolding refusal_text
-  refusal_printed room e =
-      let text = line 8 (refusal_number refusal ∷ []) in
-      e ∙ ap (λ (m : ℕ). sets out 0 (line 8 (m ∷ []))) n_is ∙ sets_onto text out (rw (line_length 8 (refusal_number refusal ∷ [])) room)
+  refusal_fits = let l = line_length 8 (refusal_number refusal ∷ []) in omega arith
 
-module _ (codes : List ℕ) (numbers : List Float) (total : Float) (out out1 last : List ℕ) (at n next : ℕ)
-    (room : 69 * length codes + 14 ≤ length out) (at_is : at ≡ length (list_lines codes numbers)) where
-  pub last_room : length out1 ≡ length out → at + 14 ≤ length out1
-  last_room same = omega (arith, list_most codes numbers)
+  pub refusal_length : b.at ≡ length (refusal_text refusal)
+  refusal_length = text_length a b start (refusal_text refusal) refused refusal_fits
 
-  pub answer_length : next ≡ at + 14 → next ≡ length (list_text codes numbers total)
-  answer_length e = omega (arith, list_text_length codes numbers total)
+  pub refusal_printed : (out : List ℕ) → out ≡ b.out.now → out ≡ onto (refusal_text refusal) a.out.now
+  refusal_printed out e = e ∙ text_printed a b start (refusal_text refusal) refused refusal_fits
 
-  pub answer_printed : out1 ≡ sets out 0 (list_lines codes numbers) → n ≡ to_bits binary32 total → last ≡ sets out1 at (line 9 (n ∷ []))
-      → last ≡ onto (list_text codes numbers total) out
+module _ (a b c : Text) (start : a.at ≡ 0) (codes : List ℕ) (numbers : List Float) (total : Float) (n : ℕ) (n_is : n ≡ to_bits binary32 total)
+    (room : 69 * length codes + 14 ≤ length a.out.now) (first : Appended a b (list_lines codes numbers)) (last : Appended b c (line 9 (n ∷ []))) where
+  answered : Appended a c (list_text codes numbers total)
   unfolding list_text numbers_line
-  answer_printed out1_is n_is last_is =
-      let text = list_lines codes numbers in
-      let end = numbers_line 9 (total ∷ []) in
-      let place : at ≡ 0 + length text = omega arith in
-      let whole : last ≡ sets out 0 (text ++ end) = rw (last_is, out1_is, n_is, place) (sym (sets_append text end out 0)) in
-      whole ∙ sets_onto (text ++ end) out (omega (arith, list_text_length codes numbers total, list_most codes numbers))
+  answered =
+      let P = λ (m : ℕ). Appended a c (list_lines codes numbers ++ line 9 (m ∷ [])) in
+      subst P n_is (append_two a b (list_lines codes numbers) first c (line 9 (n ∷ [])) last)
 
-pub ruleset print_ways = (refusal_length, refusal_printed, last_room, answer_length, answer_printed)
+  answer_fits : length (list_text codes numbers total) ≤ length a.out.now
+  answer_fits = let l = list_text_length codes numbers total in let m = list_most codes numbers in omega arith
+
+  pub answer_length : c.at ≡ length (list_text codes numbers total)
+  answer_length = text_length a c start (list_text codes numbers total) answered answer_fits
+
+  pub answer_printed : (out : List ℕ) → out ≡ c.out.now → out ≡ onto (list_text codes numbers total) a.out.now
+  answer_printed out e = e ∙ text_printed a c start (list_text codes numbers total) answered answer_fits

@@ -71,7 +71,7 @@ fn number(pattern: u32) -> f32
     if pattern % 0x8000_0000 <= 0x7f80_0000 {
         f32::from_bits(pattern)
     } else {
-        0.0 / 0.0
+        f32::NAN
     }
 }
 

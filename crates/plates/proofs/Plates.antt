@@ -28,20 +28,21 @@ use Rattle.matrix.specs.Matrix.{concat, pre_translate, pre_scale, pre_rotate}
 use Rattle.repeater.specs.Repeater as repeater
 use Rattle.copies.specs.Order.{rising, falling, order_of, copy_order}
 use Rattle.copies.specs.Calls.{has_too_many, repeater_checks, order_answer, copy_numbers, all_finite, copy_answer, transform_answer}
+use Rattle.item.specs.Kinds.{kind_of}
 use Rattle.plates.specs.Calls.{answer}
 use Rattle.plates.specs.Plates.{tiny_back, hundredth, quarter, half, three_quarters, minus_ten, minus_one, two_and_a_half, three, four, ten, twelve, fourteen, n25, n75, n90, n180, starred}
 
 -- what the calls answer to the inputs, one after another, is the outputs
 pub all_answered : map (λ p. answer p.input) starred ≡ map (λ p. p.output) starred
 unfolding sub mul div le of_int of_bits min max clamp fma rem_euclid hypot_of isqrt round_away
-    bezier_segment rect_bounds corner_radius rect_path draw_path draw_item
+    kind_of bezier_segment rect_bounds corner_radius rect_path draw_path draw_item
     distance measure.start_pen measure.move_to measure.line_to measure.close measure.step measure.steps measure.length_after measure.path_length
     size_of_code command_at command_checks read_command in_front read_list judge_list measure_list
     offset_of placed_at snapped near near_both is_whole ranges_between lower upper normalized_trim_segments is_full_trim_segments is_finite_trim trim_ranges ranges_answer
     concat pre_translate pre_scale pre_rotate sixteenths_in sixteenths_of reduced turn_of
     repeater.copy_count repeater.step_scale repeater.step_part repeater.step_matrix repeater.step_transform
     repeater.steps repeater.iteration_transform repeater.copy_transform repeater.opacity_of repeater.copy_opacity
-    rising falling order_of copy_order has_too_many repeater_checks order_answer copy_numbers all_finite copy_answer transform_answer
+    rising falling order_of copy_order has_too_many repeater_checks order_answer copy_numbers copy_answer transform_answer
 all_answered = refl
 
 -- numerator / denominator, and its negative, to the nearest f32

@@ -1,33 +1,23 @@
 -- The coordinates of a chord are finite, and a difference of finite numbers is a number: infinite at most, and no NaN. Assumes nothing.
-use mathlib.Core.Path.{◌≡◌, sym, subst}
-use mathlib.Core.Bool.{Bool, not, ◌&&◌}
-use mathlib.Core.List.{List}
-use Prim.Native.Nat.{ℕ, ◌+◌, ◌*◌, ◌≤◌, ◌<◌}
+use mathlib.Core.Path.{◌≡◌, refl, sym, subst}
+use mathlib.Core.Bool.{Bool, true, not, ◌&&◌}
+use Prim.Native.Nat.{ℕ, ◌*◌}
 use native.Mathlib.Nat.{mul-pos}
-use native.Mathlib.Omega.{arith}
 use lib.IntN.{ℤ}
 use lib.Dec.{T}
-use lib.ListN.{get_or}
 use lib.Ieee.{Float, nan, inf, fin, Format, binary32, binary64, up, down, neg, add, sub, mul, fits, is_nan}
 use lib.Ieee.Fits.{and_i, sub-fits, fits_widens, down_pos}
 use lib.Ieee.Bits.{is_true}
 use lib.Ieee.Scale.{finite}
 use Rattle.ieee.specs.Sign.{is_number}
 use Rattle.ieee.specs.Operators.{◌⊖◌}
-use Rattle.ieee.specs.Root.{hypot_of}
 use Rattle.ieee.proofs.Signed.{Le-refl}
 use Rattle.ieee.proofs.Sum.{sum_of}
 use Rattle.ieee.proofs.Order.{le_number_l, round_le}
-use Rattle.root.specs.Candidate.{Candidate, Sure, single_of}
+use Rattle.root.specs.Candidate.{IsCandidate, Sure, single_of}
 use Rattle.root.proofs.Ways.{settled}
-use Rattle.polyline.specs.Polyline.{FiniteTo}
-
--- ---- the coordinates of a chord's two ends
-pub finite_here : (xs : List Float) (n i : ℕ) → FiniteTo n xs → i < n → T (finite (get_or xs i nan))
-finite_here xs n i f h = f.at i (omega arith)
-
-pub finite_next : (xs : List Float) (n i : ℕ) → FiniteTo n xs → i < n → T (finite (get_or xs (i + 1) nan))
-finite_next xs n i f h = f.at (i + 1) (omega arith)
+use Rattle.curve.specs.Curve.{distance}
+use Rattle.point.specs.declared.Point.{Point}
 
 -- ---- a sum, a difference
 sum_number : (f : Format) (s : Bool) (m : ℕ) (e : ℤ) (t : Bool) (n : ℕ) (d : ℤ) → T (is_number (add f (fin s m e) (fin t n d)))
@@ -58,7 +48,7 @@ difference_widens x y p q =
     and_i (fits binary64 (x ⊖ y)) (not (is_nan (x ⊖ y))) (fits_widens (x ⊖ y) (sub-fits binary32 x y)) (no_nan (x ⊖ y) (difference_number binary32 x y p q))
 
 -- ---- the root of two squared differences
-pub difference_settled : (x0 y0 x1 y1 r : Float) (p d : ℕ) → Candidate p
-    → (d ≤ 1) × (d ≡ 0 → Sure (add binary64 (mul binary64 (x1 ⊖ x0) (x1 ⊖ x0)) (mul binary64 (y1 ⊖ y0) (y1 ⊖ y0))) p) → r ≡ single_of p
-    → (d ≤ 1) × (d ≡ 0 → r ≡ hypot_of binary32 (x1 ⊖ x0) (y1 ⊖ y0))
-difference_settled x0 y0 x1 y1 r p d c h e = (h.0, λ z. settled (x1 ⊖ x0) (y1 ⊖ y0) r p d (is_true _ (sub-fits binary32 x1 x0)) (is_true _ (sub-fits binary32 y1 y0)) c h z e)
+pub difference_settled : (a b : Point) (r : Float) (p : ℕ) (sure : Bool) → IsCandidate p
+    → (sure ≡ true → Sure (add binary64 (mul binary64 (b.x ⊖ a.x) (b.x ⊖ a.x)) (mul binary64 (b.y ⊖ a.y) (b.y ⊖ a.y))) p) → sure ≡ true → r ≡ single_of p → r ≡ distance a b
+unfolding distance
+difference_settled a b r p sure c h t e = settled (b.x ⊖ a.x) (b.y ⊖ a.y) _ r p sure (is_true _ (sub-fits binary32 b.x a.x)) (is_true _ (sub-fits binary32 b.y a.y)) c refl h t e

@@ -1,2 +1,2 @@
--- Points in two lists of coordinates.
+-- Points that are finite.
 pub mod Polyline

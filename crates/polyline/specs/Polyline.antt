@@ -1,20 +1,13 @@
--- Points whose coordinates stand in two lists, and numbers of a list added up. Definitions only.
-use Rattle.std.specs.Prelude.{ℕ, zero, suc, ◌≤◌, List, T, get_or, Float}
-use Rattle.std.specs.Float.{nan}
+-- Finite points. Definitions only.
+use Rattle.std.specs.Prelude.{ℕ, ◌≤◌, T}
 use Rattle.std.specs.Float.Ieee.Scale.{finite}
-use Rattle.ieee.specs.Literal.{zero32}
-use Rattle.ieee.specs.Operators.{◌⊕◌}
 use Rattle.point.specs.declared.Point.{Point}
 
--- the point of index k
-abbrev pub point_at : List Float → List Float → ℕ → Point
-point_at xs ys k = record { x = get_or xs k nan; y = get_or ys k nan }
+-- both coordinates are finite
+pub record IsFinite (p : Point) : Type 0 where
+  pub x_finite : T (finite p.x)
+  pub y_finite : T (finite p.y)
 
--- the numbers of the list up to index n are finite
-pub record FiniteTo (n : ℕ) (xs : List Float) : Type 0 where
-  pub at : (k : ℕ) → k ≤ n → T (finite (get_or xs k nan))
-
--- the first n numbers of the list, added up from 0 one by one
-unfoldable pub sum_of : List Float → ℕ → Float
-sum_of xs zero = zero32
-sum_of xs (suc n) = sum_of xs n ⊕ get_or xs n nan
+-- what is given at each of the steps 1 to n is finite
+pub record Finite (gives : ℕ → Point → Type 0) (n : ℕ) : Type 0 where
+  pub at : (k : ℕ) (p : Point) → 1 ≤ k → k ≤ n → gives k p → IsFinite p

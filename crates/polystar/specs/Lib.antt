@@ -1,3 +1,4 @@
 -- Polystars: which numbers make one, and its points.
+pub mod Marks
 pub mod Polystar
 pub mod Points

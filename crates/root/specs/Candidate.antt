@@ -4,8 +4,8 @@ use Rattle.std.specs.Float.{binary32, binary64}
 use Rattle.std.specs.Float.Ieee.{mul, lt, of_bits}
 
 -- p is the pattern of a number of 24 digits in binary32's normal range
-abbrev pub Candidate : ℕ → Type 0
-Candidate p = (898 * 2 ^ 52 ≤ p) × (p < 1150 * 2 ^ 52) × (p % 2 ^ 29 ≡ 0)
+abbrev pub IsCandidate : ℕ → Type 0
+IsCandidate p = (898 * 2 ^ 52 ≤ p) × (p < 1150 * 2 ^ 52) × (p % 2 ^ 29 ≡ 0)
 
 -- the square in binary64 of the number of pattern b
 abbrev pub square_at : ℕ → Float

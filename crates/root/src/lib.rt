@@ -2,11 +2,54 @@
 // Where the test does not pass, as at a tie, a very small or large result, an infinity or a NaN, whole numbers decide.
 #![tactic(auto)]
 
-ghost use Rattle.std.specs.Prelude.{◌≡◌, not, ◌≤◌, T};
+ghost use Rattle.std.specs.Prelude.{◌≡◌, true, not, T, IfSome};
 ghost use Rattle.std.specs.Float.{binary32, binary64};
 ghost use Rattle.std.specs.Float.Ieee.{add, mul, is_nan};
 ghost use Rattle.ieee.specs.Root.{hypot_of};
-ghost use Rattle.root.specs.Candidate.{Candidate, Sure, single_of};
+ghost use Rattle.root.specs.Candidate.{IsCandidate, Sure, single_of};
+
+// A candidate for a root: a number of 24 digits in binary32's normal range, by its pattern in binary64.
+#[derive(Clone, Copy)]
+pub struct Candidate {
+    pattern: u64,
+    ghost normal: { IsCandidate pattern },
+}
+
+impl Candidate {
+    // A candidate for the root of n: the right one nearly always, and some candidate where n is a NaN or has no such root.
+    pub fn of_root(n: f64) -> Candidate {
+        Candidate::nearest(number(guess(number(n))))
+    }
+
+    // The nearest to r where r is from 2^-63 to 2^64, and else some candidate.
+    fn nearest(r: f64) -> Candidate
+        requires { T (not (is_nan r)) }
+    {
+        let u = (f64::to_bits(r) % 0x8000_0000_0000_0000 + 0x0400_0000_1000_0000)
+            % 0x0800_0000_0000_0000;
+        Candidate {
+            pattern: 0x3c00_0000_0000_0000 + (u - u % 0x2000_0000),
+        }
+    }
+
+    // Whether n lies strictly between the squares of the midpoints s and t beside the number: then the number is its root.
+    #[tactic(auto, using(crate::proofs::Ways::below_ok, crate::proofs::Ways::above_ok))]
+    pub fn is_sure(self, n: f64) -> bool
+        ensures { result ≡ true → Sure n self.pattern }
+    {
+        let s = f64::from_bits(self.pattern - 0x1000_0000);
+        let t = f64::from_bits(self.pattern + 0x1000_0000);
+        s * s < n && n < t * t
+    }
+
+    // The number as an f32.
+    #[tactic(auto, using(crate::proofs::Ways::result_ok))]
+    pub fn single(self) -> f32
+        ensures { result ≡ single_of self.pattern }
+    {
+        f32::from_bits((self.pattern / 0x2000_0000 - 0x1_c000_0000) as u32)
+    }
+}
 
 // r, or 0 in place of a NaN and of what is not above 0: one instruction, and no branch.
 fn number(r: f64) -> f64
@@ -22,6 +65,7 @@ fn newton(h: f64, k: f64, y: f64) -> f64 {
 
 // A guess at the square root of n, of which nothing is promised: three steps from n's bit pattern, the last of them times n.
 // What a step leaves has one sign, so a little more than 1.5 in the first two halves it.
+#[tactic(auto, using(whole_root::proofs::Ways::guess_ok))]
 fn guess(n: f64) -> f64
     requires { T (not (is_nan n)) }
 {
@@ -35,56 +79,17 @@ fn heron(n: f64, d: f64) -> f64 {
     0.5 * d + n * (0.5 / d)
 }
 
-// The pattern of a number of 24 digits in binary32's normal range: the nearest to r where r is from 2^-63 to 2^64.
-fn candidate(r: f64) -> u64
-    requires { T (not (is_nan r)) }
-    ensures { Candidate result }
-{
-    let u = (f64::to_bits(r) % 0x8000_0000_0000_0000 + 0x0400_0000_1000_0000)
-        % 0x0800_0000_0000_0000;
-    0x3c00_0000_0000_0000 + (u - u % 0x2000_0000)
-}
-
-// A candidate for the root of n: the right one nearly always, and some candidate where n is a NaN or has no such root.
-pub fn candidate_root(n: f64) -> u64
-    ensures { Candidate result }
-{
-    candidate(number(guess(number(n))))
-}
-
-// 0 where n lies strictly between the squares of the midpoints s and t beside the number of pattern p, and 1 elsewhere.
-pub fn doubt(n: f64, p: u64) -> u64
-    requires { Candidate p }
-    ensures { (result ≤ 1) × (result ≡ 0 → Sure n p) }
-{
-    let s = f64::from_bits(p - 0x1000_0000);
-    let t = f64::from_bits(p + 0x1000_0000);
-    if s * s < n {
-        if n < t * t {
-            return 0;
-        }
-    }
-    1
-}
-
-// The f32 of the pattern p.
-pub fn single(p: u64) -> f32
-    requires { Candidate p }
-    ensures { result ≡ single_of p }
-{
-    f32::from_bits((p / 0x2000_0000 - 0x1_c000_0000) as u32)
-}
-
-// The sum of the squares in binary64, where each square is exact and the sum is rounded: a NaN where x or y is one.
-fn squares(x: f32, y: f32) -> f64
-    ensures { result ≡ add binary64 (mul binary64 x x) (mul binary64 y y) }
+// The sum of the squares in binary64, where each square is exact and the sum is rounded. There is none where x or y is a NaN.
+#[tactic(auto, using(ieee::proofs::Wide::widens))]
+fn squares(x: f32, y: f32) -> Option<f64>
+    ensures { IfSome result (λ n. n ≡ add binary64 (mul binary64 x x) (mul binary64 y y)) }
 {
     if x != x || y != y {
-        return 0.0 / 0.0;
+        return None;
     }
     let a = x as f64;
     let b = y as f64;
-    a * a + b * b
+    Some(a * a + b * b)
 }
 
 // The length of the vector from a guess r at it, where n is the sum of the squares: where n is strictly between the squares
@@ -94,12 +99,11 @@ fn settle(x: f32, y: f32, n: f64, r: f64) -> f32
     requires { n ≡ add binary64 (mul binary64 x x) (mul binary64 y y) }
     ensures { result ≡ hypot_of binary32 x y }
 {
-    if r != r {
-        return whole_root::hypot_exact(x, y);
-    }
-    let p = candidate(r);
-    if doubt(n, p) == 0 {
-        return single(p);
+    if r == r {
+        let candidate = Candidate::nearest(r);
+        if candidate.is_sure(n) {
+            return candidate.single();
+        }
     }
     whole_root::hypot_exact(x, y)
 }
@@ -108,20 +112,18 @@ fn settle(x: f32, y: f32, n: f64, r: f64) -> f32
 pub fn hypot(x: f32, y: f32) -> f32
     ensures { result ≡ hypot_of binary32 x y }
 {
-    let n = squares(x, y);
-    if n != n {
-        return whole_root::hypot_exact(x, y);
+    match squares(x, y) {
+        Some(n) if n == n => settle(x, y, n, guess(n)),
+        _ => whole_root::hypot_exact(x, y),
     }
-    settle(x, y, n, guess(n))
 }
 
 // The same by a guess from a number near the root: one step of Heron's method in binary64. Nothing is asked of that number.
 pub fn hypot_near(x: f32, y: f32, near: f32) -> f32
     ensures { result ≡ hypot_of binary32 x y }
 {
-    if near != near {
-        return whole_root::hypot_exact(x, y);
+    match squares(x, y) {
+        Some(n) if near == near => settle(x, y, n, heron(n, near as f64)),
+        _ => whole_root::hypot_exact(x, y),
     }
-    let n = squares(x, y);
-    settle(x, y, n, heron(n, near as f64))
 }

@@ -1,130 +1,158 @@
--- The segments between numbered vertices are written one after another, and each vertex is carried over from the segment that it ends to the one
--- that it starts. Assumes nothing.
-use mathlib.Core.Path.{◌≡◌, sym, ap, ap₂, ◌∙◌}
-use mathlib.Core.List.{List, ◌++◌}
-use Prim.Native.Nat.{ℕ, ◌+◌, ◌-◌, ◌^◌, ◌≤◌, ◌<◌}
+-- The segments between vertices that are known by number are written one after another, and each vertex is carried over from the segment that it ends
+-- to the one that it starts. Assumes nothing.
+use mathlib.Core.Path.{◌≡◌, refl, sym, ap, ap₂, ◌∙◌}
+use mathlib.Core.List.{List, [], ◌∷◌, ◌++◌, append_assoc, append-nil}
+use Prim.Native.Nat.{ℕ, ◌+◌, ◌-◌, ◌≤◌, ◌<◌}
+use native.Mathlib.Nat.{add-zero}
 use native.Mathlib.Omega.{arith}
 use lib.Ieee.{Float}
-use lib.ListN.{length, get_or, set, drop}
-use lib.Seq.{sets}
-use mir.Val.{Fits}
-use mir.Syntax.{w64}
+use lib.ListN.{length, take, drop, length-append}
+use lib.Seq.{sets, length-sets}
+use Rattle.std.proofs.lemmas.List.{take_more, take-append-drop, take_all}
 use Rattle.command.specs.declared.PathCommand.{PathCommand}
 use Rattle.command.specs.declared.PathCommand.TheVariants.{Close}
-use Rattle.command.specs.Commands.{code_of, coordinates_of, codes_of, numbers_of}
-use Rattle.command.proofs.Lists.{split, rest, codes_length}
-use Rattle.command.proofs.Writes.{WritingAt, at_start, at_more, codes_done, numbers_done, place_done}
+use Rattle.command.specs.Commands.{coordinates_of, codes_of, numbers_of}
+use Rattle.command.proofs.Buffers.{sets_append}
+use Rattle.command.proofs.Lists.{split, codes_append, numbers_append}
 use Rattle.path.specs.declared.BezierVertex.{BezierVertex}
 use Rattle.path.specs.Path.{bezier_segment}
 use Rattle.path.specs.Between.{segments_along}
-use Rattle.path.proofs.Along.{next_fits}
 use Rattle.path.proofs.Segment.{segment_numbers}
 use Rattle.path.proofs.Along.{along_length, along_at}
+use Rattle.pen.specs.declared.Pen.{Pen}
+use Rattle.pen.specs.Pens.{HasRoom, Wrote}
+use Rattle.pen.proofs.Written.{codes_both, numbers_both}
+use Rattle.segment_writer.specs.Followed.{Followed, FollowedRoom}
 
--- the segments up to vertex k are written, and that vertex is carried over
-pub record Carried (vertex : ℕ → BezierVertex) (count i j : ℕ) (codes₀ : List ℕ) (numbers₀ : List Float) (codes : List ℕ) (numbers : List Float)
-    (a : BezierVertex) (at k : ℕ) : Type 0 where
-  pub writing : WritingAt (segments_along vertex count) i j codes₀ numbers₀ codes numbers k at
-  pub here : a ≡ vertex k
-  pub inside : k + 1 < count
+-- ---- commands one after another, of which the last may be followed or not
+one_command : (c : PathCommand) → length (numbers_of (c ∷ [])) ≡ length (coordinates_of c)
+one_command c = ap length (append-nil (coordinates_of c))
 
-module _ (vertex : ℕ → BezierVertex) (count i j : ℕ) (codes₀ : List ℕ) (numbers₀ : List Float) where
+pub followed_none : (p : Pen) → Followed [] p p
+followed_none p = record {
+  same_codes = refl;
+  same_numbers = refl;
+  codes_at = sym (add-zero p.at.codes);
+  numbers_at = sym (add-zero p.at.numbers);
+  codes_are = refl;
+  numbers_same = refl;
+  numbers_are = λ more h. refl;
+}
+
+module _ (cs : List PathCommand) (c : PathCommand) (some : 2 ≤ length (coordinates_of c)) (p q : Pen) (F : Followed cs p q) where
+  -- a command that the list is followed by has numbers enough
+  followed_more : (r : Pen) → Followed (c ∷ []) q r → Followed (cs ++ c ∷ []) p r
+  followed_more r G = record {
+    same_codes = G.same_codes ∙ F.same_codes;
+    same_numbers = G.same_numbers ∙ F.same_numbers;
+    codes_at = omega (arith, codes_both cs (c ∷ []), F.codes_at, G.codes_at);
+    numbers_at = omega (arith, numbers_both cs (c ∷ []), F.numbers_at, G.numbers_at);
+    codes_are =
+        rw (codes_append cs (c ∷ []), sets_append (codes_of cs) (codes_of (c ∷ [])) p.codes.now p.at.codes) (rw (F.codes_are, F.codes_at) at G.codes_are);
+    numbers_same = G.numbers_same ∙ F.numbers_same;
+    numbers_are =
+        λ more h.
+        G.numbers_are more h
+        ∙ F.numbers_are (numbers_of (c ∷ []) ++ more) (omega (arith, length-append (numbers_of (c ∷ [])) more))
+        ∙ ap (sets p.numbers.now p.at.numbers) (sym (append_assoc (numbers_of cs) (numbers_of (c ∷ [])) more) ∙ ap (λ (l : List Float). l ++ more) (sym (numbers_append cs (c ∷ []))));
+  }
+
+  followed_last : (r : Pen) → Wrote (c ∷ []) q r → Wrote (cs ++ c ∷ []) p r
+  followed_last r W = record {
+    same_codes = W.same_codes ∙ F.same_codes;
+    same_numbers = W.same_numbers ∙ F.same_numbers;
+    codes_at = omega (arith, codes_both cs (c ∷ []), F.codes_at, W.codes_at);
+    numbers_at = omega (arith, numbers_both cs (c ∷ []), F.numbers_at, W.numbers_at);
+    codes_are =
+        rw (codes_append cs (c ∷ []), sets_append (codes_of cs) (codes_of (c ∷ [])) p.codes.now p.at.codes) (rw (F.codes_are, F.codes_at) at W.codes_are);
+    numbers_are =
+        W.numbers_are ∙ F.numbers_are (numbers_of (c ∷ [])) (omega (arith, one_command c))
+        ∙ ap (sets p.numbers.now p.at.numbers) (sym (numbers_append cs (c ∷ [])));
+  }
+
+  codes_length_same : length q.codes.now ≡ length p.codes.now
+  codes_length_same = rw (F.codes_are, length-sets p.codes.now p.at.codes (codes_of cs)) refl
+
+  module _ (all more : List PathCommand) (is : all ≡ (cs ++ c ∷ []) ++ more) (room : HasRoom all p) where
+    followed_room : 2 ≤ length (numbers_of more) → FollowedRoom c q
+    followed_room h = let r = rw is at room in record {
+      code_fits = omega (arith, codes_both (cs ++ c ∷ []) more, codes_both cs (c ∷ []), r.codes_fit, F.codes_at, codes_length_same);
+      numbers_fit =
+          omega (arith, numbers_both (cs ++ c ∷ []) more, numbers_both cs (c ∷ []), one_command c, r.numbers_fit, F.numbers_at, F.numbers_same);
+    }
+
+    last_fits : HasRoom (c ∷ []) q
+    last_fits = let r = rw is at room in record {
+      codes_fit = omega (arith, codes_both (cs ++ c ∷ []) more, codes_both cs (c ∷ []), r.codes_fit, F.codes_at, codes_length_same);
+      numbers_fit = omega (arith, numbers_both (cs ++ c ∷ []) more, numbers_both cs (c ∷ []), r.numbers_fit, F.numbers_at, F.numbers_same);
+    }
+
+-- ---- from vertex to vertex
+-- the segments up to vertex k - 1 are written, and that vertex is carried over
+pub record Carried (vertex : ℕ → BezierVertex) (count : ℕ) (p q : Pen) (a : BezierVertex) (k : ℕ) : Type 0 where
+  pub written : Followed (take (k - 1) (segments_along vertex count)) p q
+  pub here : a ≡ vertex (k - 1)
+  pub some : 0 < k
+  pub inside : k < count
+
+module _ (vertex : ℕ → BezierVertex) (count : ℕ) where
   abbrev ds : List PathCommand
   ds = segments_along vertex count
 
-  pub carried_start : 1 < count → (first : BezierVertex) → first ≡ vertex 0 → Carried vertex count i j codes₀ numbers₀ codes₀ numbers₀ first j 0
-  carried_start several first e = record { writing = at_start ds i j codes₀ numbers₀; here = e; inside = omega arith }
+  part : (k : ℕ) → 0 < k → k < count → take k ds ≡ take (k - 1) ds ++ bezier_segment (vertex (k - 1)) (vertex k) ∷ []
+  part k some inside =
+      let e : k - 1 + 1 ≡ k = omega arith in
+      rw e at (take_more ds (k - 1) Close (omega (arith, along_length vertex count)))
+      ∙ ap (λ (c : PathCommand). take (k - 1) ds ++ c ∷ []) (rw e at (along_at vertex count (k - 1) (omega arith)))
 
-  module _ (codes : List ℕ) (numbers : List Float) (a : BezierVertex) (at k : ℕ) (C : Carried vertex count i j codes₀ numbers₀ codes numbers a at k) where
-    below : k < length ds
-    below = omega (arith, along_length vertex count, C.inside)
+  pub carried_start : 1 < count → (p : Pen) (first : BezierVertex) → first ≡ vertex 0 → Carried vertex count p p first 1
+  carried_start several p first e = record { written = followed_none p; here = e; some = omega arith; inside = several }
 
-    pub code_place_fits : i + length (codes_of ds) ≤ length codes₀ → length codes₀ < 2 ^ 64 → Fits w64 (i + k)
-    code_place_fits room h = record { fits = omega (arith, codes_length ds, below) }
+  module _ (p q : Pen) (a : BezierVertex) (k : ℕ) (C : Carried vertex count p q a k) (b : BezierVertex) (b_is : b ≡ vertex k) where
+    c_is : bezier_segment (vertex (k - 1)) (vertex k) ≡ bezier_segment a b
+    c_is = ap₂ bezier_segment (sym C.here) (sym b_is)
 
-    pub code_inside : i + length (codes_of ds) ≤ length codes₀ → i + k < length codes
-    code_inside room = omega (arith, codes_length ds, below, C.writing.codes_same)
+    part_is : take k ds ≡ take (k - 1) ds ++ bezier_segment a b ∷ []
+    part_is = part k C.some C.inside ∙ ap (λ (c : PathCommand). take (k - 1) ds ++ c ∷ []) c_is
 
-    module _ (b : BezierVertex) (b_is : b ≡ vertex (k + 1)) where
-      command_is : bezier_segment a b ≡ get_or ds k Close
-      command_is = ap₂ bezier_segment C.here b_is ∙ sym (along_at vertex count k C.inside)
+    all_is : ds ≡ (take (k - 1) ds ++ bezier_segment a b ∷ []) ++ drop k ds
+    all_is = sym (take-append-drop k ds) ∙ ap (λ (l : List PathCommand). l ++ drop k ds) part_is
 
-      -- the segment is followed by another
-      two_more : k < count - 2 → 2 ≤ length (numbers_of (drop (k + 1) ds))
-      two_more h =
-          let more : k + 1 < length ds = omega (arith, along_length vertex count) in
-          omega (
-            arith,
-            split ds (k + 1) more,
-            ap (λ (c : PathCommand). length (coordinates_of c)) (along_at vertex count (k + 1) (omega arith)),
-            segment_numbers (vertex (k + 1)) (vertex (k + 1 + 1)),
-          )
+    two : 2 ≤ length (coordinates_of (bezier_segment a b))
+    two = (segment_numbers a b).0
 
-      segment_fits : j + length (numbers_of ds) ≤ length numbers₀ → at + length (coordinates_of (bezier_segment a b)) ≤ length numbers
-      segment_fits room = rw command_is (omega (arith, split ds k below, C.writing.place, C.writing.numbers_same))
+    -- the segment is followed by another
+    two_more : k < count - 1 → 2 ≤ length (numbers_of (drop k ds))
+    two_more h =
+        omega (
+          arith,
+          split ds k (omega (arith, along_length vertex count)),
+          ap (λ (c : PathCommand). length (coordinates_of c)) (along_at vertex count k (omega arith)),
+          segment_numbers (vertex k) (vertex (k + 1)),
+        )
 
-      pub followed_fits : k < count - 2 → j + length (numbers_of ds) ≤ length numbers₀ → at + length (coordinates_of (bezier_segment a b)) + 2 ≤ length numbers
-      followed_fits h room = rw command_is (omega (arith, split ds k below, two_more h, C.writing.place, C.writing.numbers_same))
+    pub carried_room : k < count - 1 → HasRoom ds p → FollowedRoom (bezier_segment a b) q
+    carried_room h room = followed_room (take (k - 1) ds) (bezier_segment a b) two p q C.written ds (drop k ds) all_is room (two_more h)
 
-      -- the segment's code at its place, and the place after its numbers
-      module _ (codes' : List ℕ) (numbers' : List Float) (at' : ℕ) (codes_are : codes' ≡ set codes (i + k) (code_of (bezier_segment a b)))
-          (at_is : at' ≡ at + length (coordinates_of (bezier_segment a b))) where
-        -- after a segment that is followed, with the second control point of a line left in the place of what follows
-        pub carried_on : k < count - 2
-            → ((more : List Float) → 2 ≤ length more → sets numbers' at' more ≡ sets numbers at (coordinates_of (bezier_segment a b) ++ more))
-            → length numbers' ≡ length numbers → Carried vertex count i j codes₀ numbers₀ codes' numbers' b at' (k + 1)
-        carried_on h covers same =
-            let w = at_more ds i j codes₀ numbers₀ codes numbers k at C.writing below in
-            record {
-              writing = record {
-                bound = w.bound;
-                place = rw (at_is, command_is) w.place;
-                codes_last = rw (codes_are, command_is) w.codes_last;
-                numbers_last =
-                    covers (numbers_of (drop (k + 1) ds)) (two_more h) ∙ rw command_is (rw (rest ds k below) at C.writing.numbers_last);
-                codes_same = rw (codes_are, command_is) w.codes_same;
-                numbers_same = same ∙ C.writing.numbers_same;
-              };
-              here = b_is;
-              inside = omega arith;
-            }
+    pub carried_on : k < count - 1 → (r : Pen) → Followed (bezier_segment a b ∷ []) q r → Carried vertex count p r b (k + 1)
+    carried_on h r F =
+        let same : k + 1 - 1 ≡ k = omega arith in
+        record {
+          written = rw (same, part_is) (followed_more (take (k - 1) ds) (bezier_segment a b) two p q C.written r F);
+          here = rw same b_is;
+          some = omega arith;
+          inside = omega arith;
+        }
 
-      -- the last segment, c, is written and nothing else
-      module _ (last : count - 2 ≤ k) (c : PathCommand) (c_is : c ≡ bezier_segment a b) where
-        pub last_fits : j + length (numbers_of ds) ≤ length numbers₀ → at + length (coordinates_of c) ≤ length numbers
-        last_fits room = rw c_is (segment_fits room)
+    -- the last segment is written and nothing else
+    module _ (last : count - 1 ≤ k) (c : PathCommand) (is : c ≡ bezier_segment a b) where
+      pub last_room : HasRoom ds p → HasRoom (c ∷ []) q
+      last_room room = rw is (last_fits (take (k - 1) ds) (bezier_segment a b) two p q C.written ds (drop k ds) all_is room)
 
-        module _ (codes' : List ℕ) (numbers' : List Float) (at' : ℕ) (codes_are : codes' ≡ set codes (i + k) (code_of c))
-            (at_is : at' ≡ at + length (coordinates_of c)) (numbers_are : numbers' ≡ sets numbers at (coordinates_of c)) where
-          done : WritingAt ds i j codes₀ numbers₀ codes' numbers' (k + 1) at'
-          done = rw (codes_are, at_is, numbers_are, c_is, command_is) (at_more ds i j codes₀ numbers₀ codes numbers k at C.writing below)
+      pub last_wrote : (r : Pen) → Wrote (c ∷ []) q r → Wrote ds p r
+      last_wrote r W =
+          let e : ds ≡ take (k - 1) ds ++ bezier_segment a b ∷ [] = sym (take_all k ds (omega (arith, along_length vertex count))) ∙ part_is in
+          rw e (followed_last (take (k - 1) ds) (bezier_segment a b) two p q C.written r (rw is at W))
 
-          all : length ds ≤ k + 1
-          all = omega (arith, along_length vertex count)
-
-          pub last_codes : codes' ≡ sets codes₀ i (codes_of ds)
-          last_codes = codes_done ds i j codes₀ numbers₀ codes' numbers' (k + 1) at' done all
-
-          pub last_numbers : numbers' ≡ sets numbers₀ j (numbers_of ds)
-          last_numbers = numbers_done ds i j codes₀ numbers₀ codes' numbers' (k + 1) at' done all
-
-          pub last_place : at' ≡ j + length (numbers_of ds)
-          last_place = place_done ds i j codes₀ numbers₀ codes' numbers' (k + 1) at' done all
-
-      -- the last vertex, as z, since `search` takes no function from a goal
-      pub last_vertex_is : count - 2 ≤ k → (z : BezierVertex) → vertex (count - 1) ≡ z → b ≡ z
-      last_vertex_is last z is = b_is ∙ ap vertex (omega (arith, C.inside)) ∙ is
-
-pub ruleset carries = (
-  next_fits,
-  carried_start,
-  code_place_fits,
-  code_inside,
-  last_fits,
-  followed_fits,
-  carried_on,
-  last_vertex_is,
-  last_codes,
-  last_numbers,
-  last_place,
-)
+pub last_vertex : (vertex : ℕ → BezierVertex) (count k last : ℕ) (b : BezierVertex) → b ≡ vertex last → last ≡ count - 1 → last ≤ k → k < count → b ≡ vertex k
+last_vertex vertex count k last b is e h inside = is ∙ ap vertex (omega arith)

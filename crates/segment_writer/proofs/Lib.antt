@@ -1,4 +1,4 @@
 -- What the proofs of the segment writer cite.
 pub mod Ways
 pub mod Carried
-pub mod Parts
+pub mod Outlined

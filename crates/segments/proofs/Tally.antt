@@ -1,24 +1,25 @@
 -- The numbers of a path of numbered vertices are counted from vertex to vertex: those so far and those of the segments to come are all.
 -- Assumes nothing.
-use mathlib.Core.Path.{◌≡◌, sym, ap, ap₂, ◌∙◌}
+use mathlib.Core.Path.{◌≡◌, sym, ap, ◌∙◌}
 use mathlib.Core.Bool.{Bool, true, false, cond}
 use mathlib.Core.List.{List, [], ◌∷◌, ◌++◌}
 use Prim.Native.Nat.{ℕ, ◌+◌, ◌-◌, ◌*◌, ◌^◌, ◌≤◌, ◌<◌}
 use native.Mathlib.Omega.{arith}
+use lib.Dec.{eqb}
 use lib.Ieee.{Float}
 use lib.ListN.{length, drop, length-append, drop_of_length-le}
 use mir.Val.{Fits}
 use mir.Syntax.{w64}
 use Rattle.command.specs.declared.PathCommand.{PathCommand}
-use Rattle.command.specs.declared.PathCommand.TheVariants.{Move, Close}
+use Rattle.command.specs.declared.PathCommand.TheVariants.{Close}
 use Rattle.command.specs.Commands.{coordinates_of, numbers_of}
 use Rattle.command.proofs.Lists.{numbers_few, split}
 use Rattle.path.specs.declared.BezierVertex.{BezierVertex}
-use Rattle.path.specs.Path.{is_line, bezier_segment}
-use Rattle.path.specs.Between.{segments_along}
-use Rattle.path.proofs.Along.{next_fits}
+use Rattle.path.specs.Path.{is_line, vertex_at, bezier_segment, path_commands}
+use Rattle.path.specs.Between.{path_along, segments_along}
 use Rattle.path.proofs.Segment.{segment_numbers, place_after}
-use Rattle.path.proofs.Along.{along_length, along_at, round_numbers}
+use Rattle.path.proofs.Along.{along_length, along_at, begin, along_one, along_open, along_closed, commands_along, round_numbers}
+use Rattle.segments.specs.Leaves.{Passed}
 
 -- ---- the numbers of the segments from vertex j on
 module _ (vertex : ℕ → BezierVertex) (count : ℕ) where
@@ -30,13 +31,13 @@ module _ (vertex : ℕ → BezierVertex) (count : ℕ) where
       split (segments_along vertex count) j (omega (arith, along_length vertex count))
       ∙ ap (λ (c : PathCommand). length (coordinates_of c) + rest (j + 1)) (along_at vertex count j h)
 
-  pub rest_none : (j : ℕ) → count ≤ j + 1 → rest j ≡ 0
+  rest_none : (j : ℕ) → count ≤ j + 1 → rest j ≡ 0
   rest_none j h =
       ap (λ (l : List PathCommand). length (numbers_of l))
       (drop_of_length-le (segments_along vertex count) {i = j} (omega (arith, along_length vertex count)))
 
 -- the place after a segment's end fits where a cubic's would
-pub after_end_fits : (at : ℕ) (t : Bool) (end : ℕ) → at + 6 < 2 ^ 64 → end ≡ cond t at (at + 4) → Fits w64 (end + 2)
+after_end_fits : (at : ℕ) (t : Bool) (end : ℕ) → at + 6 < 2 ^ 64 → end ≡ cond t at (at + 4) → Fits w64 (end + 2)
 after_end_fits at t end h e = record { fits = rw e (go t) }
   where
     go : (u : Bool) → cond u at (at + 4) + 2 < 2 ^ 64
@@ -44,73 +45,96 @@ after_end_fits at t end h e = record { fits = rw e (go t) }
     go false = omega arith
 
 -- ---- a walk from vertex to vertex
--- the numbers of a move and of the segments up to vertex j, which is a, and those from it on, are all
-pub record Tally (vertex : ℕ → BezierVertex) (count : ℕ) (a : BezierVertex) (j at : ℕ) : Type 0 where
-  pub inside : j < count
-  pub here : a ≡ vertex j
-  pub few : at ≤ 2 + 6 * j
-  pub all : at + rest vertex count j ≡ 2 + length (numbers_of (segments_along vertex count))
-
--- the numbers of cubics up to a vertex
-module _ (count : ℕ) (limit : count ≤ 1024) (j : ℕ) (h : j < count) where
-  pub six_fits : Fits w64 (6 * j)
-  six_fits = record { fits = omega arith }
-
-  pub two_six_fits : Fits w64 (2 + 6 * j)
-  two_six_fits = record { fits = omega arith }
+-- The first k vertices have been come to, of which a is the last. The numbers of a move and of the segments up to it, and those from it on, are all.
+pub record Tally (vertex : ℕ → BezierVertex) (count : ℕ) (a : BezierVertex) (k at : ℕ) : Type 0 where
+  pub some : 0 < k
+  pub inside : k ≤ count
+  pub here : a ≡ vertex (k - 1)
+  pub few : at + 4 ≤ 6 * k
+  pub all : at + rest vertex count (k - 1) ≡ 2 + length (numbers_of (segments_along vertex count))
 
 module _ (vertex : ℕ → BezierVertex) (count : ℕ) where
   -- from a vertex before which there are only cubics
-  pub tally_start : (j : ℕ) → j < count → (a : BezierVertex) → 6 * j + rest vertex count j ≡ length (numbers_of (segments_along vertex count)) → a ≡ vertex j
-      → Tally vertex count a j (2 + 6 * j)
-  tally_start j h a e is = record { inside = h; here = is; few = omega arith; all = omega arith }
+  module _ (start : ℕ) (P : Passed vertex count start) where
+    pub first_fits : count ≤ 1024 → Fits w64 (6 * start)
+    first_fits few = record { fits = omega (arith, P.inside) }
 
-  module _ (a : BezierVertex) (j at : ℕ) (T : Tally vertex count a j at) where
-    module _ (limit : count ≤ 1024) where
-      pub four_fits : at + 4 < 2 ^ 64
-      four_fits = omega (arith, T.inside, T.few)
+    pub first_place_fits : count ≤ 1024 → Fits w64 (2 + 6 * start)
+    first_place_fits few = record { fits = omega (arith, P.inside) }
 
-      pub end_fits : (t : Bool) (end : ℕ) → end ≡ cond t at (at + 4) → Fits w64 (end + 2)
-      end_fits t end e = after_end_fits at t end (omega (arith, T.inside, T.few)) e
+    pub next_fits : count ≤ 1024 → Fits w64 (start + 1)
+    next_fits few = record { fits = omega (arith, P.inside) }
 
-    pub tally_more : (b : BezierVertex) (t : Bool) (end : ℕ) → t ≡ is_line a b → end ≡ cond t at (at + 4) → j + 1 < count → b ≡ vertex (j + 1)
-        → Tally vertex count b (j + 1) (end + 2)
-    tally_more b t end t_is end_is h is =
-        let step : rest vertex count j ≡ length (coordinates_of (bezier_segment a b)) + rest vertex count (j + 1) =
-        rest_step vertex count j h
-        ∙ ap (λ (c : PathCommand). length (coordinates_of c) + rest vertex count (j + 1)) (ap₂ bezier_segment (sym T.here) (sym is)) in
+    pub tally_start : (a : BezierVertex) → a ≡ vertex start → Tally vertex count a (start + 1) (2 + 6 * start)
+    tally_start a is =
+        let same : start + 1 - 1 ≡ start = omega arith in
         record {
-          inside = h;
-          here = is;
-          few = omega (arith, T.few, place_after a b t at end t_is end_is, segment_numbers a b);
-          all = omega (arith, T.all, step, place_after a b t at end t_is end_is);
+          some = omega arith;
+          inside = omega (arith, P.inside);
+          here = rw same is;
+          few = omega arith;
+          all = rw same (omega (arith, P.same));
         }
 
-    pub tally_end : count ≤ j + 1 → at ≡ 2 + length (numbers_of (segments_along vertex count))
-    tally_end g = omega (arith, T.all, rest_none vertex count j g)
+  module _ (a : BezierVertex) (k at : ℕ) (T : Tally vertex count a k at) where
+    pub four_fits : count ≤ 1024 → at + 4 < 2 ^ 64
+    four_fits limit = omega (arith, T.inside, T.few)
 
-    -- the last vertex, as z, since `search` takes no function from a goal
-    pub last_is : count ≤ j + 1 → (z : BezierVertex) → vertex (count - 1) ≡ z → a ≡ z
-    last_is g z is = T.here ∙ ap vertex (omega (arith, T.inside)) ∙ is
+    pub end_fits : count ≤ 1024 → (t : Bool) (end : ℕ) → end ≡ cond t at (at + 4) → Fits w64 (end + 2)
+    end_fits limit t end e = after_end_fits at t end (omega (arith, T.inside, T.few)) e
 
-pub ruleset tallies = (six_fits, two_six_fits, tally_start, next_fits, four_fits, end_fits, tally_more, tally_end, last_is)
+    pub tally_more : (b : BezierVertex) (t : Bool) (end : ℕ) → t ≡ is_line a b → end ≡ cond t at (at + 4) → k < count → b ≡ vertex k
+        → Tally vertex count b (k + 1) (end + 2)
+    tally_more b t end t_is end_is h is =
+        let before : k - 1 + 1 ≡ k = omega (arith, T.some) in
+        let same : k + 1 - 1 ≡ k = omega arith in
+        let step : rest vertex count (k - 1) ≡ length (coordinates_of (bezier_segment a b)) + rest vertex count k =
+        rw (T.here, is) (rw before at (rest_step vertex count (k - 1) (omega (arith, T.some)))) in
+        record {
+          some = omega arith;
+          inside = omega arith;
+          here = rw same is;
+          few = omega (arith, T.few, place_after a b t at end t_is end_is, segment_numbers a b);
+          all = rw same (omega (arith, T.all, step, place_after a b t at end t_is end_is));
+        }
+
+    pub tally_end : count ≤ k → at ≡ 2 + length (numbers_of (segments_along vertex count))
+    tally_end g = omega (arith, T.all, rest_none vertex count (k - 1) (omega (arith, T.some)))
+
+    pub last_is : count ≤ k → a ≡ vertex (count - 1)
+    last_is g = T.here ∙ ap vertex (omega (arith, T.inside))
 
 -- ---- the total
-module _ (vertex : ℕ → BezierVertex) (count : ℕ) (limit : count ≤ 1024) (at : ℕ) (at_is : at ≡ 2 + length (numbers_of (segments_along vertex count))) where
-  pub back_fits : at + 4 < 2 ^ 64
-  back_fits = omega (arith, numbers_few (segments_along vertex count), along_length vertex count)
+module _ (vertex : ℕ → BezierVertex) (count : ℕ) where
+  abbrev size : Bool → ℕ
+  size closed = length (numbers_of (path_along closed vertex count))
 
-  pub closed_fits : (t : Bool) (end : ℕ) → end ≡ cond t at (at + 4) → Fits w64 (end + 2)
-  closed_fits t end e = after_end_fits at t end (omega (arith, numbers_few (segments_along vertex count), along_length vertex count)) e
+  pub one_total : (closed : Bool) → count ≡ 1 → 4 ≡ size closed
+  one_total closed e = sym (ap (λ (l : List PathCommand). length (numbers_of l)) (along_one vertex count closed e))
 
--- a move and the segments between
-pub open_is : (os between : List PathCommand) (x y : Float) (at : ℕ) → at ≡ 2 + length (numbers_of between) → os ≡ Move x y ∷ between
-    → at ≡ length (numbers_of os)
-open_is os between x y at at_is is = omega (arith, ap (λ (l : List PathCommand). length (numbers_of l)) is)
+  module _ (at : ℕ) (at_is : at ≡ 2 + length (numbers_of (segments_along vertex count))) where
+    pub back_fits : count ≤ 1024 → at + 4 < 2 ^ 64
+    back_fits few = omega (arith, numbers_few (segments_along vertex count), along_length vertex count)
 
--- the path left open, the segment from z back to a, and a close
-pub closed_is : (cs left : List PathCommand) (z a : BezierVertex) (at : ℕ) → at ≡ length (numbers_of left) → (t : Bool) (end : ℕ) → t ≡ is_line z a
-    → end ≡ cond t at (at + 4) → cs ≡ left ++ bezier_segment z a ∷ Close ∷ [] → end + 2 ≡ length (numbers_of cs)
-closed_is cs left z a at at_is t end t_is end_is is =
-    place_after z a t at end t_is end_is ∙ ap (λ (n : ℕ). n + length (coordinates_of (bezier_segment z a))) at_is
-    ∙ sym (ap length (round_numbers cs left (bezier_segment z a) is) ∙ length-append (numbers_of left) (coordinates_of (bezier_segment z a)))
+    pub closed_fits : count ≤ 1024 → (t : Bool) (end : ℕ) → end ≡ cond t at (at + 4) → Fits w64 (end + 2)
+    closed_fits few t end e = after_end_fits at t end (omega (arith, numbers_few (segments_along vertex count), along_length vertex count)) e
+
+    module _ (several : 1 < count) where
+      pub open_total : (closed : Bool) → closed ≡ false → at ≡ size closed
+      open_total closed e = rw e (omega (arith, ap (λ (l : List PathCommand). length (numbers_of l)) (along_open vertex count several)))
+
+      -- the path left open, the segment from the last vertex back to the first, and a close
+      pub closed_total : (closed : Bool) → closed ≡ true → (z a : BezierVertex) (t : Bool) (end : ℕ) → t ≡ is_line z a → end ≡ cond t at (at + 4)
+          → z ≡ vertex (count - 1) → a ≡ vertex 0 → end + 2 ≡ size closed
+      closed_total closed c z a t end t_is end_is z_is a_is =
+          let left : List PathCommand = begin vertex count ∷ segments_along vertex count in
+          let cs = path_along true vertex count in
+          let is : cs ≡ left ++ bezier_segment z a ∷ Close ∷ [] = rw (z_is, a_is) (along_closed vertex count several) in
+          let n : length (numbers_of cs) ≡ length (numbers_of left) + length (coordinates_of (bezier_segment z a)) =
+          ap length (round_numbers cs left (bezier_segment z a) is) ∙ length-append (numbers_of left) (coordinates_of (bezier_segment z a)) in
+          rw c (omega (arith, n, place_after z a t at end t_is end_is))
+
+-- the flag is a number
+pub commands_total : (closed : ℕ) (v : List Float) (count n : ℕ) → n ≡ length (numbers_of (path_along (eqb closed 1) (vertex_at v) count))
+    → n ≡ length (numbers_of (path_commands closed v count))
+commands_total closed v count n e = rw (commands_along closed count v) e

@@ -1,6 +1,6 @@
 -- What each way out of a function of this crate owes, as the code meets it. Assumes nothing.
 use Rattle.std.specs.Prelude.{Ok}
-use mathlib.Core.Path.{◌≡◌, sym, ap, ◌∙◌}
+use mathlib.Core.Path.{◌≡◌, refl, sym, ap, ◌∙◌}
 use mathlib.Core.Bool.{Bool, true, false, ◌&&◌, and-eq-true_iff}
 use mathlib.Core.List.{List}
 use Prim.Native.Nat.{ℕ, ◌+◌, ◌*◌, ◌^◌, ◌≤◌, ◌<◌}
@@ -20,7 +20,6 @@ use Rattle.command.specs.Commands.{codes_of, numbers_of}
 use Rattle.command.specs.declared.Size.{Size}
 use Rattle.command.specs.Buffers.{fitted, in_buffers, FilledBoth, size_of, pair_of}
 use Rattle.command.proofs.Lists.{codes_length}
-use Rattle.command.proofs.Writes.{writes}
 use Rattle.command.proofs.Buffers.{fitted_accepted, fitted_refused, filled, both_unfilled}
 use Rattle.path.specs.Path.{bezier_count, path_commands}
 use Rattle.path.proofs.Paths.{path_commands_length}
@@ -79,18 +78,6 @@ module _ (radius : Float) (v : List Float) where
     unfolding shape_commands
     round_is h = rw (← here) (rect_round b radius t is h)
 
-module _ (cs : List PathCommand) (b : Bounds) where
-  pub plain_five : cs ≡ plain_rect b → 5 ≡ length cs
-  unfolding plain_rect
-  plain_five e = rw e
-
-  pub round_ten : (radius : Float) → cs ≡ round_rect b radius → 10 ≡ length cs
-  unfolding round_rect
-  round_ten radius e = rw e
-
-pub command_is : (cs ds : List PathCommand) (k : ℕ) (r : PathCommand) → cs ≡ ds → r ≡ get_or ds k Close → r ≡ get_or cs k Close
-command_is cs ds k r e f = rw e f
-
 pub rect_fit : (s : Shape) (v : List Float) (radius : Float) → s ≡ Rect radius → Fit s v → Fit (Rect radius) v
 rect_fit s v radius is fit = rw is at fit
 
@@ -123,69 +110,27 @@ module _ (s t : Shape) (is : s ≡ t) (v : List Float) where
   pub counts_are : (n m : ℕ) → n ≡ length (shape_commands t v) → m ≡ length (numbers_of (shape_commands t v)) → (n, m) ≡ size_of (shape_commands s v)
   counts_are n m e f = rw is (size_is (shape_commands t v) n m e f)
 
-  module _ (i : ℕ) where
-    pub codes_room : (n : ℕ) → i + length (codes_of (shape_commands s v)) ≤ n → i + length (codes_of (shape_commands t v)) ≤ n
-    codes_room n h = rw is at h
+pub path_arm_is : (s : Shape) (closed count : ℕ) → s ≡ Path closed count → (v : List Float) → shape_commands s v ≡ path_commands closed v count
+unfolding shape_commands
+path_arm_is s closed count is v = rw is
 
-    pub numbers_room : (n : ℕ) → i + length (numbers_of (shape_commands s v)) ≤ n → i + length (numbers_of (shape_commands t v)) ≤ n
-    numbers_room n h = rw is at h
-
-    pub codes_place_is : (n : ℕ) → n ≡ i + length (codes_of (shape_commands t v)) → n ≡ i + length (codes_of (shape_commands s v))
-    codes_place_is n e = rw is e
-
-    pub place_is : (n : ℕ) → n ≡ i + length (numbers_of (shape_commands t v)) → n ≡ i + length (numbers_of (shape_commands s v))
-    place_is n e = rw is e
-
-    pub codes_are : (codes codes' : List ℕ) → codes' ≡ sets codes i (codes_of (shape_commands t v)) → codes' ≡ sets codes i (codes_of (shape_commands s v))
-    codes_are codes codes' e = rw is e
-
-    pub written : (numbers numbers' : List Float) → numbers' ≡ sets numbers i (numbers_of (shape_commands t v))
-        → numbers' ≡ sets numbers i (numbers_of (shape_commands s v))
-    written numbers numbers' e = rw is e
-
--- what is room for a shape that is a path is room for the path
-module _ (s : Shape) (closed count : ℕ) (is : s ≡ Path closed count) (v : List Float) (i n : ℕ) where
-  pub path_codes_room : i + length (codes_of (shape_commands s v)) ≤ n → i + length (codes_of (path_commands closed v count)) ≤ n
-  unfolding shape_commands
-  path_codes_room h = rw is at h
-
-  pub path_numbers_room : i + length (numbers_of (shape_commands s v)) ≤ n → i + length (numbers_of (path_commands closed v count)) ≤ n
-  unfolding shape_commands
-  path_numbers_room h = rw is at h
-
--- the place after the codes
-module _ (cs : List PathCommand) (i n : ℕ) (e : n ≡ length cs) where
-  pub codes_after : i + n ≡ i + length (codes_of cs)
-  codes_after = rw (codes_length cs, e)
-
-  pub after_fits : (room : ℕ) → i + length (codes_of cs) ≤ room → room < 2 ^ 64 → Fits w64 (i + n)
-  after_fits room h g = record { fits = omega (arith, codes_after) }
-
-pub ruleset afters = (codes_after, after_fits)
-
--- all that the loops over a rectangle and over an ellipse ask, and all that the matches on the kind ask
-pub ruleset rect_loops = (plain_is, plain_five, round_is, round_ten, command_is, writes, afters)
-
-pub ruleset ellipse_loops = (ellipse_is, ellipse_six, command_is, writes, afters)
-
+-- all that the matches on the kind ask
 pub ruleset path_needs = (path_few, path_count, path_numbers, size_is)
 
-pub ruleset path_arms = (path_fit, path_few, path_count, path_numbers, path_codes_room, path_numbers_room, codes_fit, six_fits, two_more_fit)
+pub ruleset path_arms = (path_fit, path_few, path_count, path_numbers, codes_fit, six_fits, two_more_fit)
 
 pub ruleset rect_arms = (rect_fit, rect_count, rect_numbers)
 
 pub ruleset ellipse_arms = (ellipse_fit, ellipse_six, ellipse_few)
 
-pub ruleset arms = (path_arms, rect_arms, ellipse_arms, need_is, counts_are, codes_room, numbers_room, codes_place_is, place_is, codes_are, written)
+pub ruleset arms = (path_arms, rect_arms, ellipse_arms, need_is, counts_are)
 
 -- ---- is_ample, holds and fits
-pub path_ample : (s : Shape) (v : List Float) (closed count codes numbers : ℕ) → s ≡ Path closed count → Fit s v
-    → leb (count + 2) codes && leb (6 * count + 2) numbers ≡ true → in_buffers codes numbers (shape_commands s v) ≡ true
-path_ample s v closed count codes numbers is fit e =
+pub path_ample : (s : Shape) (v : List Float) (closed count codes numbers : ℕ) → s ≡ Path closed count → Fit s v → count + 2 ≤ codes
+    → leb (6 * count + 2) numbers ≡ true → in_buffers codes numbers (shape_commands s v) ≡ true
+path_ample s v closed count codes numbers is fit a e =
     let most = shape_enough (Path closed count) v (path_fit s v closed count is fit) in
-    let held = (and-eq-true_iff (leb (count + 2) codes) (leb (6 * count + 2) numbers)).0 e in
-    let a = leb-true (count + 2) codes held.0 in
-    let b = leb-true (6 * count + 2) numbers held.1 in
+    let b = leb-true (6 * count + 2) numbers e in
     rw (
       is,
       le-leb (size_of (shape_commands (Path closed count) v)).0 codes (omega arith),
@@ -193,12 +138,6 @@ path_ample s v closed count codes numbers is fit e =
     )
 
 pub ruleset amples = (path_few, codes_fit, six_fits, two_more_fit)
-
-pub both_held : (a b : ℕ) (t : Bool) → a ≤ b → t ≡ (leb a b && t)
-both_held a b t h = rw (le-leb a b h)
-
-pub none_held : (a b : ℕ) (t : Bool) → b < a → false ≡ (leb a b && t)
-none_held a b t h = rw (lt-leb a b h)
 
 module _ (s : Shape) (v : List Float) (size : Size) (codes numbers : ℕ) (t : Bool) (t_is : t ≡ (leb size.codes codes && leb size.numbers numbers)) where
   pub fits_by_need : pair_of size ≡ size_of (shape_commands s v) → t ≡ in_buffers codes numbers (shape_commands s v)
@@ -208,7 +147,7 @@ pub fits_anyway : (s : Shape) (v : List Float) (codes numbers : ℕ) (t : Bool) 
     → true ≡ in_buffers codes numbers (shape_commands s v)
 fits_anyway s v codes numbers t f e = sym (f e)
 
-pub ruleset fittings = (both_held, none_held, fits_by_need, fits_anyway)
+pub ruleset fittings = (fits_by_need, fits_anyway)
 
 -- ---- draw_shape
 module _ (cs : List PathCommand) (codes : List ℕ) (numbers : List Float) (t : Bool) (t_is : t ≡ in_buffers (length codes) (length numbers) cs) where

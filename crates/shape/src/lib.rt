@@ -6,10 +6,12 @@ ghost use Rattle.std.proofs.lemmas.List.Edits.{sets};
 ghost use Rattle.command.specs.Commands.{codes_of, numbers_of};
 ghost use Rattle.command.specs.Outcomes.{number_of};
 ghost use Rattle.command.specs.Buffers.{fitted, in_buffers, codes_told, numbers_told, FilledBoth, size_of, pair_of};
+ghost use Rattle.pen.specs.Pens.{HasRoom, Wrote};
 ghost use Rattle.shape.specs.declared.Shape.TheVariants.{Path, Rect, Ellipse};
 ghost use Rattle.shape.specs.Shape.{bounds_of, shape_commands, Fit};
 
 use command::{Outcome, Refusal, Size};
+use pen::Pen;
 use rect::Bounds;
 
 // What is to be drawn, and what decides how much of it there is. Its numbers stand in a list beside it.
@@ -61,77 +63,41 @@ fn bounds_of(list: &[f32]) -> Bounds
     rect::rect_bounds(list[0], list[1], list[2], list[3])
 }
 
-// Writes a rectangle at places of buffers that it fits, and gives the places after it.
-// The counts are literals, so that the compiler lays the turns out one after the other.
-fn write_rect(
-    radius: f32,
-    list: &[f32],
-    codes: &mut [u8],
-    i: usize,
-    numbers: &mut [f32],
-    j: usize,
-) -> Size
+// Writes a rectangle.
+fn write_rect(radius: f32, list: &[f32], pen: &mut Pen)
     requires fit { Fit (Rect radius) list.now }
-    requires list_in_bounds { i + length (codes_of (shape_commands (Rect radius) list.now)) ≤ length codes.old }
-    requires list_in_bounds_2 { j + length (numbers_of (shape_commands (Rect radius) list.now)) ≤ length numbers.old }
-    ensures codes_value { result.codes ≡ i + length (codes_of (shape_commands (Rect radius) list.now)) }
-    ensures numbers_value { result.numbers ≡ j + length (numbers_of (shape_commands (Rect radius) list.now)) }
-    ensures codes_after { codes.new ≡ sets codes.old i (codes_of (shape_commands (Rect radius) list.now)) }
-    ensures numbers_after { numbers.new ≡ sets numbers.old j (numbers_of (shape_commands (Rect radius) list.now)) }
+    requires room { HasRoom (shape_commands (Rect radius) list.now) pen.old }
+    ensures { Wrote (shape_commands (Rect radius) list.now) pen.old pen.new }
 {
     let bounds = bounds_of(list);
-    let mut at = j;
-    let mut k: usize = 0;
     if rect::is_plain(radius) {
-        while k < 5 {
-            let c = rect::plain_command(bounds, k);
-            codes[i + k] = command::code(c);
-            at = command::put_numbers(c, numbers, at);
-            k += 1;
-        }
-        return Size {
-            codes: i + 5,
-            numbers: at,
-        };
-    }
-    while k < 10 {
-        let c = rect::round_command(bounds, radius, k);
-        codes[i + k] = command::code(c);
-        at = command::put_numbers(c, numbers, at);
-        k += 1;
-    }
-    Size {
-        codes: i + 10,
-        numbers: at,
+        pen.put_all(&rect::plain_commands(bounds));
+    } else {
+        pen.put_all(&rect::round_commands(bounds, radius));
     }
 }
 
-// Writes an ellipse at places of buffers that it fits, and gives the places after it.
-fn write_ellipse(list: &[f32], codes: &mut [u8], i: usize, numbers: &mut [f32], j: usize) -> Size
+// Writes an ellipse.
+fn write_ellipse(list: &[f32], pen: &mut Pen)
     requires fit { Fit Ellipse list.now }
-    requires list_in_bounds { i + length (codes_of (shape_commands Ellipse list.now)) ≤ length codes.old }
-    requires list_in_bounds_2 { j + length (numbers_of (shape_commands Ellipse list.now)) ≤ length numbers.old }
-    ensures codes_value { result.codes ≡ i + length (codes_of (shape_commands Ellipse list.now)) }
-    ensures numbers_value { result.numbers ≡ j + length (numbers_of (shape_commands Ellipse list.now)) }
-    ensures codes_after { codes.new ≡ sets codes.old i (codes_of (shape_commands Ellipse list.now)) }
-    ensures numbers_after { numbers.new ≡ sets numbers.old j (numbers_of (shape_commands Ellipse list.now)) }
+    requires room { HasRoom (shape_commands Ellipse list.now) pen.old }
+    ensures { Wrote (shape_commands Ellipse list.now) pen.old pen.new }
 {
     let bounds = bounds_of(list);
-    let cx = list[0];
-    let cy = list[1];
-    let w = list[2];
-    let h = list[3];
-    let mut at = j;
-    let mut k: usize = 0;
-    while k < 6 {
-        let c = ellipse::ellipse_command(bounds, cx, cy, w, h, k);
-        codes[i + k] = command::code(c);
-        at = command::put_numbers(c, numbers, at);
-        k += 1;
-    }
-    Size {
-        codes: i + 6,
-        numbers: at,
+    let commands = ellipse::ellipse_commands(bounds, list[0], list[1], list[2], list[3]);
+    pen.put_all(&commands);
+}
+
+// Writes a shape.
+pub fn write(shape: Shape, list: &[f32], pen: &mut Pen)
+    requires fit { Fit shape list.now }
+    requires room { HasRoom (shape_commands shape list.now) pen.old }
+    ensures { Wrote (shape_commands shape list.now) pen.old pen.new }
+{
+    match shape {
+        Shape::Path(closed, count) => segment_writer::write_path(closed, list, count, pen),
+        Shape::Rect(radius) => write_rect(radius, list, pen),
+        Shape::Ellipse => write_ellipse(list, pen),
     }
 }
 
@@ -152,13 +118,13 @@ pub fn write_at(
     ensures codes_after { codes.new ≡ sets codes.old i (codes_of (shape_commands shape list.now)) }
     ensures numbers_after { numbers.new ≡ sets numbers.old j (numbers_of (shape_commands shape list.now)) }
 {
-    match shape {
-        Shape::Path(closed, count) => {
-            segment_writer::write_path(closed, list, count, codes, i, numbers, j)
-        }
-        Shape::Rect(radius) => write_rect(radius, list, codes, i, numbers, j),
-        Shape::Ellipse => write_ellipse(list, codes, i, numbers, j),
-    }
+    let at = Size {
+        codes: i,
+        numbers: j,
+    };
+    let mut pen = Pen { codes, numbers, at };
+    write(shape, list, &mut pen);
+    pen.at
 }
 
 // Whether two buffers of these lengths are enough for any path of so many vertices, so that this one need not be counted.
@@ -168,9 +134,8 @@ fn is_ample(shape: Shape, list: &[f32], codes: usize, numbers: usize) -> bool
     ensures { result ≡ true → in_buffers codes numbers (shape_commands shape list.now) ≡ true }
 {
     match shape {
-        Shape::Path(_, count) => (count + 2 <= codes) & (6 * count + 2 <= numbers),
-        Shape::Rect(_) => false,
-        Shape::Ellipse => false,
+        Shape::Path(_, count) => count + 2 <= codes && 6 * count + 2 <= numbers,
+        Shape::Rect(_) | Shape::Ellipse => false,
     }
 }
 
@@ -178,11 +143,7 @@ fn is_ample(shape: Shape, list: &[f32], codes: usize, numbers: usize) -> bool
 fn holds(size: Size, codes: usize, numbers: usize) -> bool
     ensures { result ≡ (leb size.codes codes && leb size.numbers numbers) }
 {
-    if size.codes <= codes {
-        size.numbers <= numbers
-    } else {
-        false
-    }
+    size.codes <= codes && size.numbers <= numbers
 }
 
 // Whether a shape fits two buffers of these lengths.
@@ -190,15 +151,10 @@ fn fits(shape: Shape, list: &[f32], codes: usize, numbers: usize) -> bool
     requires { Fit shape list.now }
     ensures { result ≡ in_buffers codes numbers (shape_commands shape list.now) }
 {
-    if is_ample(shape, list, codes, numbers) {
-        true
-    } else {
-        holds(need_of(shape, list), codes, numbers)
-    }
+    is_ample(shape, list, codes, numbers) || holds(need_of(shape, list), codes, numbers)
 }
 
 // Writes a shape from the start of two buffers, if it fits them.
-#[tactic(auto, using(crate::proofs::Ways::drawings))]
 pub fn draw_shape(shape: Shape, list: &[f32], codes: &mut [u8], numbers: &mut [f32]) -> Outcome<Size>
     requires { Fit shape list.now }
     ensures { FilledBoth

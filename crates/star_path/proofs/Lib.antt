@@ -1,2 +1,2 @@
 -- What the proofs of `star_path` cite.
-pub mod Ways
+pub mod Along

@@ -1,2 +1,2 @@
--- A word of writing's own way.
-pub mod Left
+-- What the points of a polystar keep to.
+pub mod Points

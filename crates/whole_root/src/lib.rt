@@ -10,7 +10,7 @@ ghost use Rattle.whole_root.specs.Steps.{halved, root_of_parts};
 
 use float::Parts;
 
-// A step of Newton's method towards 1 / √(2 h), of which nothing is promised.
+// A step of Newton's method towards 1 / √(2 h), of which nothing is promised. The step of `root` is no twin: it has the factor of its last step in it.
 fn newton(h: f64, y: f64) -> f64 {
     y * (1.5 - h * y * y)
 }

@@ -1,40 +1,13 @@
 -- `arc::inside_quad` meets its contract. Assumes nothing.
-use Rattle.arc.proofs.Ways.{ways}
+use mathlib.Core.Path.{refl}
+use Rattle.curve.specs.Curve.{quad_point, quad_length_after}
+use Rattle.arc.proofs.Ways.{quad_finite}
 use borrow.Author.Rules.{rules}
 use Rattle.arc.proofs.inside_quad.Goals as goal
 
-pub loop-step-init : goal.loop-step-init
-loop-step-init c = search (rules, ways)
-
-pub overflow_add-step : goal.overflow_add-step
-overflow_add-step c = search (rules, ways)
-
-pub quad_point-point-requires : goal.quad_point-point-requires
-quad_point-point-requires c = search (rules, ways)
-
-pub overflow_cast-k : goal.overflow_cast-k
-overflow_cast-k c = search (rules, ways)
-
-pub offset_bounds-xs-k : goal.offset_bounds-xs-k
-offset_bounds-xs-k c = search (rules, ways)
-
-pub bounds-xs-k : goal.bounds-xs-k
-bounds-xs-k c = search (rules, ways)
-
-pub offset_bounds-ys-k : goal.offset_bounds-ys-k
-offset_bounds-ys-k c = search (rules, ways)
-
-pub bounds-ys-k : goal.bounds-ys-k
-bounds-ys-k c = search (rules, ways)
-
-pub loop-step-smaller : goal.loop-step-smaller
-loop-step-smaller c = search (rules, ways)
-
-pub loop-step-preserved : goal.loop-step-preserved
-loop-step-preserved c = search (rules, ways)
-
-pub length-requires : goal.length-requires
-length-requires c = search (rules, ways)
+pub length-requires-clause-finite : goal.length-requires-clause-finite
+length-requires-clause-finite c = record { at = λ k p l h e. quad_finite c.args.start c.args.control c.args.end (search rules) (search rules) (search rules) k p h (search rules) }
 
 pub returns : goal.returns
-returns c = search (rules, ways)
+unfolding quad_length_after quad_point
+returns c = c.length.ensures (quad_point c.args.start c.args.control c.args.end) (record { at = λ k p l h e. search rules }) refl

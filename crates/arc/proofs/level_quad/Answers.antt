@@ -1,16 +1,13 @@
 -- `arc::level_quad` meets its contract. Assumes nothing.
-use Rattle.arc.proofs.Ways.{quad_xs, quad_ys, ways}
-use native.Mathlib.Omega.{arith}
+use mathlib.Core.Path.{refl}
+use Rattle.curve.specs.Curve.{quad_point, quad_length_after}
+use Rattle.arc.proofs.Ways.{quad_finite}
 use borrow.Author.Rules.{rules}
 use Rattle.arc.proofs.level_quad.Goals as goal
 
-pub write_eighths-requires : goal.write_eighths-requires
-write_eighths-requires c = record { quad_coordinates = search (rules, ways); thirds = search (rules, ways) }
-
-pub length-requires : goal.length-requires
-length-requires c =
-    let F = c.write_between.ensures in
-    (search rules, quad_xs _ _ _ 24 _ _ (search rules) (search rules) (search rules) F (omega arith), quad_ys _ _ _ 24 _ _ (search rules) (search rules) (search rules) F (omega arith))
+pub length-requires-clause-finite : goal.length-requires-clause-finite
+length-requires-clause-finite c = record { at = λ k p l h e. quad_finite c.args.start c.args.control c.args.end (search rules) (search rules) (search rules) k p h (search rules) }
 
 pub returns : goal.returns
-returns c = search (rules, ways)
+unfolding quad_length_after quad_point
+returns c = c.length.ensures (quad_point c.args.start c.args.control c.args.end) (record { at = λ k p l h e. search rules }) refl

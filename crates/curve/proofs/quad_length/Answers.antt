@@ -1,28 +1,10 @@
 -- `curve::quad_length` meets its contract. Assumes nothing.
-use Rattle.curve.proofs.Ways.{ways}
+use mathlib.Core.Path.{refl}
 use borrow.Author.Rules.{rules}
+use Rattle.curve.specs.Curve.{quad_point, quad_length_after}
+use Rattle.curve.proofs.Chords.{quad_step}
 use Rattle.curve.proofs.quad_length.Goals as goal
 
-pub loop-step-init : goal.loop-step-init
-loop-step-init c = search (rules, ways)
-
-pub overflow_add-step : goal.overflow_add-step
-overflow_add-step c = search (rules, ways)
-
-pub int_to_float-step : goal.int_to_float-step
-int_to_float-step c = search (rules, ways)
-
-pub eval_quad-point-requires : goal.eval_quad-point-requires
-eval_quad-point-requires c = search (rules, ways)
-
-pub distance-length-requires : goal.distance-length-requires
-distance-length-requires c = search (rules, ways)
-
-pub loop-step-smaller : goal.loop-step-smaller
-loop-step-smaller c = search (rules, ways)
-
-pub loop-step-preserved : goal.loop-step-preserved
-loop-step-preserved c = search (rules, ways)
-
 pub returns : goal.returns
-returns c = search (rules, ways)
+unfolding quad_length_after quad_point
+returns c = c.by_chords.ensures (quad_point c.args.start c.args.control c.args.end) (record { at = λ k p l h e. quad_step c.args.start c.args.control c.args.end k p l (search rules) }) refl

@@ -3,5 +3,5 @@ use borrow.Author.Rules.{rules}
 use Rattle.draw.proofs.Ways.{kinds}
 use Rattle.draw.proofs.shape_of.Goals as goal
 
-pub returns-in-2 : goal.returns-in-2
-returns-in-2 c = search (rules, kinds)
+pub returns-in-Rect : goal.returns-in-Rect
+returns-in-Rect c = search (rules, kinds)

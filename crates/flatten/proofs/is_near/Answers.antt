@@ -11,9 +11,3 @@ returns-then-pattern-eq0 c = search (rules, ways)
 
 pub returns-then-size-top : goal.returns-then-size-top
 returns-then-size-top c = search (rules, ways)
-
-pub returns-else-size-top : goal.returns-else-size-top
-returns-else-size-top c = search (rules, ways)
-
-pub returns-else-is_within : goal.returns-else-is_within
-returns-else-is_within c = search (rules, ways)

@@ -1,14 +1,17 @@
 -- `float::all_within` meets its contract. Assumes nothing.
-use mathlib.Core.Path.{◌∙◌}
+use mathlib.Core.Path.{◌≡◌, ◌∙◌}
+use mathlib.Core.Bool.{◌&&◌}
 use borrow.Author.Rules.{rules}
+use Rattle.std.proofs.iter.Yields.{fronts}
+use Rattle.std.proofs.lemmas.Fn.{fold_over}
 use Rattle.std.proofs.lemmas.Iterator.{YieldsList-from_slice}
-use Rattle.std.proofs.lemmas.Iterator.Search.{all_from_yields_List}
-use Rattle.ieee.specs.Limit.{within}
-use Rattle.float.proofs.Ways.{all_is}
+use Rattle.ieee.specs.Limit.{within, all_within}
+use Rattle.float.proofs.Ways.{all_none, all_more}
 use Rattle.float.proofs.all_within.Goals as goal
 
 pub returns : goal.returns
 returns c =
-    let v = c.args.numbers.now in
-    all_from_yields_List (within c.args.limit) _ _ c.all.result c.all.ensures.ran (YieldsList-from_slice v cc) (λ x b q k. search rules)
-    ∙ all_is c.args.limit v
+    let limit = c.args.limit in
+    fold_over fronts (λ y. y.now) _ (λ xs b. b ≡ all_within limit xs) _
+    (λ xs a x b q e k. let is : b ≡ (a && within limit x.now) = search rules in (is ∙ all_more limit xs x.now a e, search rules))
+    c.iter.result c.args.numbers.now _ c.fold.result (YieldsList-from_slice c.args.numbers.now cc).runs (all_none limit) c.fold.ensures.ran

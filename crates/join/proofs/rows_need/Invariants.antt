@@ -1,5 +1,4 @@
 -- The loops of `join::rows_need`.
-use Prim.Native.Nat.{◌-◌}
 use Rattle.join.proofs.Ways.{Needing}
 use Rattle.join.proofs.rows_need.Given as goal
 

@@ -1,5 +1,4 @@
 -- The loops of `join::write_rows`.
-use Prim.Native.Nat.{◌-◌}
 use Rattle.join.proofs.Ways.{Joining}
 use Rattle.join.proofs.write_rows.Given as goal
 

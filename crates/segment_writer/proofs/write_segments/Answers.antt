@@ -1,55 +1,26 @@
 -- `segment_writer::write_segments` meets its contract. Assumes nothing.
-use borrow.Author.Rules.{rules}
-use Rattle.segment_writer.proofs.Ways.{carries}
+use Rattle.std.proofs.Common.{arith}
+use Rattle.segment_writer.proofs.Carried.{carried_room, carried_on, last_room, last_wrote, last_vertex}
 use Rattle.segment_writer.proofs.write_segments.Goals as goal
 
-pub overflow_sub-last : goal.overflow_sub-last
-overflow_sub-last c = search (rules, carries)
-
-pub loop-k-init : goal.loop-k-init
-loop-k-init c = search (rules, carries)
-
-pub overflow_add-k : goal.overflow_add-k
-overflow_add-k c = search (rules, carries)
-
-pub vertex_at-b-requires : goal.vertex_at-b-requires
-vertex_at-b-requires c = search (rules, carries)
-
-pub overflow_add-i : goal.overflow_add-i
-overflow_add-i c = search (rules, carries)
-
-pub put_followed-at-requires : goal.put_followed-at-requires
-put_followed-at-requires c = record { i_in_bounds = search (rules, carries); b_in_bounds = search (rules, carries) }
-
-pub overflow_add-k-in-loop-k : goal.overflow_add-k-in-loop-k
-overflow_add-k-in-loop-k c = search (rules, carries)
-
-pub loop-k-smaller : goal.loop-k-smaller
-loop-k-smaller c = search (rules, carries)
+pub put_followed-requires : goal.put_followed-requires
+put_followed-requires g c = carried_room _ _ _ _ _ _ c.loop-k.invariant _ c.vertex-b.ensures (omega arith) c.requires.room
 
 pub loop-k-preserved : goal.loop-k-preserved
-loop-k-preserved c = search (rules, carries)
+loop-k-preserved g c = carried_on _ _ _ _ _ _ c.loop-k.invariant _ c.vertex-b.ensures (omega arith) _ c.put_followed.ensures
 
-pub overflow_add-k-2 : goal.overflow_add-k-2
-overflow_add-k-2 c = search (rules, carries)
+pub put-requires : goal.put-requires
+put-requires g c =
+    let C = c.loop-k.invariant in
+    let b_is =
+    last_vertex (g.O.Outline.vertex c.args.outline.now) (g.O.Outline.count c.args.outline.now) _ _ _ c.vertex-b-2.ensures (omega arith)
+    c.loop-k-test.false C.inside in
+    last_room _ _ _ _ _ _ C _ b_is (omega arith) _ c.segment_to.ensures c.requires.room
 
-pub vertex_at-b-requires-2 : goal.vertex_at-b-requires-2
-vertex_at-b-requires-2 c = search (rules, carries)
-
-pub bezier_segment-requires : goal.bezier_segment-requires
-bezier_segment-requires c = search (rules, carries)
-
-pub overflow_add-i-2 : goal.overflow_add-i-2
-overflow_add-i-2 c = search (rules, carries)
-
-pub put-end-requires : goal.put-end-requires
-put-end-requires c = record { i_in_bounds = search (rules, carries); command_in_bounds = search (rules, carries) }
-
-pub shape_of-codes : goal.shape_of-codes
-shape_of-codes c = search (rules, carries)
-
-pub shape_of-numbers : goal.shape_of-numbers
-shape_of-numbers c = search (rules, carries)
-
-pub returns : goal.returns
-returns c = record { vertex_value = search (rules, carries); at_value = search (rules, carries); codes_after = search (rules, carries); numbers_after = search (rules, carries) }
+pub returns-clause-wrote : goal.returns-clause-wrote
+returns-clause-wrote g c =
+    let C = c.loop-k.invariant in
+    let b_is =
+    last_vertex (g.O.Outline.vertex c.args.outline.now) (g.O.Outline.count c.args.outline.now) _ _ _ c.vertex-b-2.ensures (omega arith)
+    c.loop-k-test.false C.inside in
+    last_wrote _ _ _ _ _ _ C _ b_is (omega arith) _ c.segment_to.ensures _ c.put.ensures

@@ -1,26 +1,15 @@
 -- `shape::write_ellipse` meets its contract. Assumes nothing.
-use Rattle.shape.proofs.Ways.{ellipse_loops, ellipse_six}
-use borrow.Author.Rules.{rules}
-use Rattle.command.proofs.Writes.{code_room}
+use mathlib.Core.Path.{sym, refl, ◌∙◌}
+use Rattle.pen.proofs.Written.{same_room, same_wrote}
+use Rattle.shape.proofs.Ways.{ellipse_is}
 use Rattle.shape.proofs.write_ellipse.Goals as goal
 
-pub loop-k-init : goal.loop-k-init
-loop-k-init c = search (rules, ellipse_loops)
-
-pub overflow_add-codes : goal.overflow_add-codes
-overflow_add-codes c = search (rules, ellipse_loops)
-
-pub bounds-codes-i : goal.bounds-codes-i
-bounds-codes-i c = search (rules, code_room, ellipse_six)
-
-pub put_numbers-at-requires : goal.put_numbers-at-requires
-put_numbers-at-requires c = search (rules, ellipse_loops)
-
-pub loop-k-preserved : goal.loop-k-preserved
-loop-k-preserved c = search (rules, ellipse_loops)
-
-pub overflow_add-result : goal.overflow_add-result
-overflow_add-result c = search (rules, ellipse_loops)
+pub put_all-requires : goal.put_all-requires
+put_all-requires c =
+    let is = ellipse_is c.args.list.now _ _ _ _ _ c.bounds_of-bounds.ensures refl refl refl refl ∙ sym c.ellipse_commands-commands.ensures in
+    same_room _ _ is _ c.requires.room
 
 pub returns : goal.returns
-returns c = record { codes_value = search (rules, ellipse_loops); numbers_value = search (rules, ellipse_loops); codes_after = search (rules, ellipse_loops); numbers_after = search (rules, ellipse_loops) }
+returns c =
+    let is = ellipse_is c.args.list.now _ _ _ _ _ c.bounds_of-bounds.ensures refl refl refl refl ∙ sym c.ellipse_commands-commands.ensures in
+    same_wrote _ _ is _ _ c.put_all.ensures

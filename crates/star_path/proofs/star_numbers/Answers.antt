@@ -1,13 +1,14 @@
 -- `star_path::star_numbers` meets its contract. Assumes nothing.
-use borrow.Author.Rules.{rules}
-use Rattle.star_path.proofs.Ways.{totals}
+use mathlib.Core.Path.{◌∙◌, ap}
+use mathlib.Core.List.{List}
+use lib.ListN.{length}
+use Rattle.command.specs.declared.PathCommand.{PathCommand}
+use Rattle.command.specs.Commands.{numbers_of}
+use Rattle.star_path.proofs.Along.{path_is, none_passed}
 use Rattle.star_path.proofs.star_numbers.Goals as goal
 
-pub end_place-requires : goal.end_place-requires
-end_place-requires c = search (rules, totals)
-
-pub overflow_add-result : goal.overflow_add-result
-overflow_add-result c = search (rules, totals)
+pub outline_numbers-requires : goal.outline_numbers-requires
+outline_numbers-requires c = none_passed c.args.star c.requires
 
 pub returns : goal.returns
-returns c = search (rules, totals)
+returns c = c.outline_numbers.ensures ∙ ap (λ (cs : List PathCommand). length (numbers_of cs)) (path_is c.args.star)

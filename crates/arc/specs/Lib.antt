@@ -1,2 +1,0 @@
--- Arrays that hold the points of a curve.
-pub mod Traced

@@ -1,9 +1,0 @@
--- The loops of `flatten::largest_of_quad`.
-use Prim.Native.Nat.{◌-◌, ◌≤◌}
-use Rattle.flatten.proofs.largest_of_quad.Given as goal
-
-abbrev pub invariant-loop-i : goal.invariant-loop-i
-invariant-loop-i l = l.i ≤ 6
-
-abbrev pub decreases-loop-i : goal.decreases-loop-i
-decreases-loop-i l = 6 - l.i

@@ -1,0 +1,10 @@
+-- `jengafir::jengafir_trim_ranges` meets its contract. Assumes nothing.
+use borrow.Author.Rules.{rules}
+use Rattle.cut.proofs.Ways.{telling}
+use Rattle.jengafir.proofs.jengafir_trim_ranges.Goals as goal
+
+pub returns-in-Err : goal.returns-in-Err
+returns-in-Err c = search (rules, telling)
+
+pub returns-in-Ok : goal.returns-in-Ok
+returns-in-Ok c = search (rules, telling)

@@ -1,7 +1,0 @@
--- `measure::move_to` meets its contract. Assumes nothing.
-use Rattle.measure.proofs.Ways.{ways}
-use borrow.Author.Rules.{rules}
-use Rattle.measure.proofs.move_to.Goals as goal
-
-pub returns : goal.returns
-returns c = search (rules, ways)

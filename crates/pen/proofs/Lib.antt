@@ -1,0 +1,2 @@
+-- What the proofs of a writer cite.
+pub mod Written

@@ -1,0 +1,2 @@
+-- What is written where more is to follow.
+pub mod Followed
