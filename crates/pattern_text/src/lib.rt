@@ -10,7 +10,8 @@ use std::io::{BufRead, BufReader, Read, Write};
 use std::num::f32_from_bits_with_nan;
 use std::{fmt, io};
 
-// Reads until the buffer is full or the input ends, and gives how many bytes it put at the buffer's start.
+// Reads until the buffer is full or the input ends, and gives how many bytes it put at the buffer's start. The memory is
+// fixed, so std's `read_to_end`, which fills a Vec, does not serve.
 pub fn read_full(input: &mut impl Read, text: &mut [u8]) -> io::Result<usize>
     ensures { IfOk result (λ n. n ≤ length text.new) }
 {
@@ -60,7 +61,8 @@ impl Call<'_> {
 
     // How many places are lent of a buffer that has so many.
     pub fn lent(&self, place: usize, most: usize) -> usize
-        ensures { result ≡ min (get_or self.now.patterns.now place 0) most }
+        ensures value { result ≡ min (get_or self.now.patterns.now place 0) most }
+        ensures within { result ≤ most }
     {
         self.size(place).min(most)
     }

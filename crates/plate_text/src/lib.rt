@@ -7,7 +7,8 @@ ghost use Rattle.draw.specs.Paths.{draw_path};
 ghost use Rattle.length.specs.Lists.{measure_list};
 ghost use Rattle.plate_text.specs.Plate.{drawn_text, plate_text, measured_text};
 
-// Prints a command list and its length, or why it has none.
+// Prints a command list and its length, or why it has none. Each step prints its own refusal: so its contract names the
+// whole text that is printed, and not a text or a refusal that the caller has yet to print.
 fn print_measured(codes: &[u8], numbers: &[f32], out: &mut [u8]) -> usize
     requires { 69 * length codes.now + 14 ≤ length out.old }
     ensures value { result ≡ length (measured_text codes.now numbers.now (measure_list codes.now numbers.now)) }

@@ -3,8 +3,14 @@ use borrow.Author.Rules.{rules}
 use Rattle.plate_text.proofs.Ways.{drawing}
 use Rattle.plate_text.proofs.print_drawn.Goals as goal
 
-pub returns-in-Err : goal.returns-in-Err
-returns-in-Err c = record { value = search (rules, drawing); out_after = search (rules, drawing) }
+pub returns-in-Err-clause-value : goal.returns-in-Err-clause-value
+returns-in-Err-clause-value c = search (rules, drawing)
 
-pub returns-in-Ok : goal.returns-in-Ok
-returns-in-Ok c = record { value = search (rules, drawing); out_after = search (rules, drawing) }
+pub returns-in-Err-clause-out_after : goal.returns-in-Err-clause-out_after
+returns-in-Err-clause-out_after c = search (rules, drawing)
+
+pub returns-in-Ok-clause-value : goal.returns-in-Ok-clause-value
+returns-in-Ok-clause-value c = search (rules, drawing)
+
+pub returns-in-Ok-clause-out_after : goal.returns-in-Ok-clause-out_after
+returns-in-Ok-clause-out_after c = search (rules, drawing)
