@@ -25,7 +25,7 @@ pub fn approx_eq(a: f32, b: f32) -> bool
     float::is_within(a - b, 0.0001)
 }
 
-// Whether two points are within 1e-4 in each axis.
+// Whether two points are within 1e-4 in each axis. By `&` and not `&&`, so that no branch hangs on how near they are.
 fn approx_eq_point(ax: f32, ay: f32, bx: f32, by: f32) -> bool
     ensures { result ≡ (approx_eq ax bx && approx_eq ay by) }
 {

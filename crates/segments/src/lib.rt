@@ -39,7 +39,8 @@ fn four_leave(vertices: &[f32], j: usize) -> bool
         & (leaves(vertices, j + 2) & leaves(vertices, j + 3))
 }
 
-// A vertex before which there are only cubics. A list of cubics is passed over four at a time, up to its last few.
+// A vertex before which there are only cubics. A list of cubics is passed over four at a time, up to its last few: by a `while`, since
+// a range has no step that is taken only where the four vertices leave.
 fn cubics_before(vertices: &[f32], count: usize) -> usize
     requires { Sound vertices.now count }
     ensures { Passed (vertex_at vertices.now) count result }
