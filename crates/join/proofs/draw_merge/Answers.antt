@@ -9,4 +9,4 @@ returns-in_err-m c =
     search rules
 
 pub returns : goal.returns
-returns c = merge_joined c.args.rows.now c.args.n c.args.items.now c.decide.result c.decide.ensures.0 _ c.in_ok-m.was _ _ _ _ _ c.join_rows.ensures
+returns c = merge_joined c.args.rows.now c.args.n c.args.items.now c.decide.result c.decide.ensures.0 _ c.in_ok-m.was _ c.rows_before.ensures.value _ _ _ _ _ c.join_rows.ensures
