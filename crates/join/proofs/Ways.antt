@@ -11,7 +11,7 @@ use native.Mathlib.Omega.{arith}
 use mir.Val.{Fits}
 use mir.Syntax.{w64}
 use lib.Ieee.{Float}
-use lib.ListN.{length, take, drop, length-append}
+use lib.ListN.{length, get_or, take, drop, length-append}
 use lib.Seq.{sets, length-sets}
 use borrow.Author.Tests.{lt-leb, le-leb}
 use Rattle.command.specs.declared.PathCommand.{PathCommand}
@@ -27,14 +27,15 @@ use Rattle.command.proofs.Buffers.{sets_append, fitted_accepted, fitted_refused,
 use Rattle.shape.specs.declared.Shape.{Shape}
 use Rattle.shape.specs.Shape.{shape_commands}
 use Rattle.item.specs.declared.ItemRow.{ItemRow}
-use Rattle.item.specs.Rows.{item_row, entries_of}
+use Rattle.item.specs.Rows.{item_row, row_of, entries_of}
 use Rattle.draw.specs.Checks.{outcome_of}
 use Rattle.draw.specs.Items.{has_no_vertices, shape_drawn, draw_source}
 use Rattle.draw.proofs.Ways.{sound_place, sound_fit, tail}
 use Rattle.draw.proofs.Sources.{DrawnSource, drawn_source, source_few, source_numbers_few}
 use Rattle.need.proofs.Enough.{drawn_needs}
 use Rattle.nest.specs.Lists.{rows_from}
-use Rattle.nest.proofs.Rows.{rest_step, rest_none, rest_all}
+use Rattle.std.proofs.Common.{drop-cons}
+use Rattle.std.proofs.lemmas.List.{drop_all}
 use Rattle.merge.specs.Flat.{is_source_row, sources_from}
 use Rattle.merge.specs.Decision.{said, decision, Settled}
 use Rattle.join.specs.Merge.{followed_by, draw_sources, draw_joined, draw_merge}
@@ -118,47 +119,47 @@ row_few row items c n = go (is_source_row row)
         (omega (arith, s.1), omega (arith, s.2))
 
 -- the need of the rows from i on, after that of the rows before
-pub record Needing (rows : List ℕ) (m : ℕ) (items : List Float) (codes numbers i : ℕ) : Type 0 where
-  pub inside : i ≤ m
-  pub rest : need_after codes numbers (need_of (draw_rows (rows_from rows i (m - i)) items)) ≡ need_of (draw_rows (rows_from rows 0 m) items)
+pub record Needing (rows : List (List ℕ)) (items : List Float) (codes numbers i : ℕ) : Type 0 where
+  pub inside : i ≤ length rows
+  pub rest : need_after codes numbers (need_of (draw_rows (map row_of (drop i rows)) items)) ≡ need_of (draw_rows (map row_of rows) items)
   pub few_codes : codes ≤ 1026 * i
   pub few_numbers : numbers ≤ 6156 * i
 
-module _ (rows : List ℕ) (m : ℕ) (items : List Float) where
-  pub needing_start : Needing rows m items 0 0 0
+module _ (rows : List (List ℕ)) (items : List Float) where
+  pub needing_start : Needing rows items 0 0 0
   needing_start = record {
     inside = zero-le;
-    rest = after_none _ ∙ ap (λ (l : List ItemRow). need_of (draw_rows l items)) (rest_all rows m);
+    rest = after_none _;
     few_codes = zero-le;
     few_numbers = zero-le;
   }
 
-  rows_split : (i : ℕ) → i < m → draw_rows (rows_from rows i (m - i)) items ≡ followed_by (draw_row (item_row rows i) items) (draw_rows (rows_from rows (i + 1) (m - (i + 1))) items)
+  rows_split : (i : ℕ) → i < length rows → draw_rows (map row_of (drop i rows)) items ≡ followed_by (draw_row (row_of (get_or rows i [])) items) (draw_rows (map row_of (drop (i + 1) rows)) items)
   unfolding draw_rows
-  rows_split i h = rw (rest_step rows i m h)
+  rows_split i h =
+      let next : suc i ≡ i + 1 = omega arith in
+      let cut : drop i rows ≡ get_or rows i [] ∷ drop (i + 1) rows = drop-cons rows i [] h ∙ ap (λ (k : ℕ). get_or rows i [] ∷ drop k rows) next in
+      rw cut
 
-  rows_over : (i : ℕ) → m ≤ i → draw_rows (rows_from rows i (m - i)) items ≡ Ok []
+  rows_over : (i : ℕ) → length rows ≤ i → draw_rows (map row_of (drop i rows)) items ≡ Ok []
   unfolding draw_rows
-  rows_over i h = rw (rest_none rows i m h)
+  rows_over i h = rw (drop_all i rows h)
 
-  module _ (codes numbers i : ℕ) (w : Needing rows m items codes numbers i) where
-    pub row_inside : i < m → m ≤ 256 → 6 * m ≤ length rows → 6 * i + 6 ≤ length rows
-    row_inside h few inside = omega arith
-
-    module _ (h : i < m) (row : ItemRow) (row_is : row ≡ item_row rows i) (need : Outcome Size) (need_is : mapped pair_of need ≡ need_of (draw_row row items)) where
+  module _ (codes numbers i : ℕ) (w : Needing rows items codes numbers i) where
+    module _ (h : i < length rows) (row : ItemRow) (row_is : row ≡ row_of (get_or rows i [])) (need : Outcome Size) (need_is : mapped pair_of need ≡ need_of (draw_row row items)) where
       abbrev here : Outcome (List PathCommand)
-      here = draw_row (item_row rows i) items
+      here = draw_row (row_of (get_or rows i [])) items
 
       abbrev later : Outcome (List PathCommand)
-      later = draw_rows (rows_from rows (i + 1) (m - (i + 1))) items
+      later = draw_rows (map row_of (drop (i + 1) rows)) items
 
       need_at : mapped pair_of need ≡ need_of here
       need_at = need_is ∙ ap (λ (r : ItemRow). need_of (draw_row r items)) row_is
 
-      split_need : need_after codes numbers (need_of (followed_by here later)) ≡ need_of (draw_rows (rows_from rows 0 m) items)
+      split_need : need_after codes numbers (need_of (followed_by here later)) ≡ need_of (draw_rows (map row_of rows) items)
       split_need = ap (λ (o : Outcome (List PathCommand)). need_after codes numbers (need_of o)) (sym (rows_split i h)) ∙ w.rest
 
-      pub needing_refused : (r : Refusal) → need ≡ Err r → Err r ≡ need_of (draw_rows (rows_from rows 0 m) items)
+      pub needing_refused : (r : Refusal) → need ≡ Err r → Err r ≡ need_of (draw_rows (map row_of rows) items)
       unfolding need_after
       needing_refused r e = sym (ap (need_after codes numbers) (need_refused here later r (ap (mapped pair_of) (sym e) ∙ need_at))) ∙ split_need
 
@@ -173,15 +174,15 @@ module _ (rows : List ℕ) (m : ℕ) (items : List Float) where
         told = ap (mapped pair_of) (sym e) ∙ need_at
 
         few : (c ≤ 1026) × (n ≤ 6156)
-        few = row_few (item_row rows i) items c n told
+        few = row_few (row_of (get_or rows i [])) items c n told
 
-        pub codes_fit : m ≤ 256 → Fits w64 (codes + c)
+        pub codes_fit : length rows ≤ 256 → Fits w64 (codes + c)
         codes_fit small = record { fits = omega (arith, few.0) }
 
-        pub numbers_fit : m ≤ 256 → Fits w64 (numbers + n)
+        pub numbers_fit : length rows ≤ 256 → Fits w64 (numbers + n)
         numbers_fit small = record { fits = omega (arith, few.1) }
 
-        pub needing_more : Needing rows m items (codes + c) (numbers + n) (i + 1)
+        pub needing_more : Needing rows items (codes + c) (numbers + n) (i + 1)
         needing_more = record {
           inside = omega arith;
           rest = sym (after_after codes numbers c n _) ∙ ap (need_after codes numbers) (sym (need_room here later c n told)) ∙ split_need;
@@ -189,14 +190,14 @@ module _ (rows : List ℕ) (m : ℕ) (items : List Float) where
           few_numbers = omega (arith, few.1);
         }
 
-    pub needing_end : m ≤ i → Ok (codes, numbers) ≡ need_of (draw_rows (rows_from rows 0 m) items)
+    pub needing_end : length rows ≤ i → Ok (codes, numbers) ≡ need_of (draw_rows (map row_of rows) items)
     unfolding need_after
     needing_end h =
         sym (λ k. Ok (add-zero codes k, add-zero numbers k))
         ∙ ap (λ (o : Outcome (List PathCommand)). need_after codes numbers (need_of o)) (sym (rows_over i h))
         ∙ w.rest
 
-pub ruleset rows_needs = (needing_start, row_inside, needing_refused, codes_fit, numbers_fit, needing_more, needing_end)
+pub ruleset rows_needs = (needing_start, needing_refused, codes_fit, numbers_fit, needing_more, needing_end)
 
 -- ---- write_row
 drawn_is : (o : Outcome (List PathCommand)) → is_accepted o ≡ true → o ≡ Ok (list_of o)
@@ -303,60 +304,57 @@ parts (Ok cs) (Err r) e = let z : ◌≡◌ {A = ℕ} 0 1 = cc in absurd (omega 
 parts (Ok cs) (Ok ds) e = record { first = refl; second = refl; both = refl }
 
 -- The rows from i on, written on the buffers as they are, give what all rows give on the buffers as they were.
-pub record Joining (rows : List ℕ) (m : ℕ) (items : List Float) (codes₀ : List ℕ) (numbers₀ : List Float) (codes : List ℕ) (numbers : List Float) (at to i : ℕ) : Type 0 where
-  pub inside : i ≤ m
-  pub drawn_rest : is_accepted (draw_rows (rows_from rows i (m - i)) items) ≡ true
-  pub codes_last : sets codes at (codes_in (draw_rows (rows_from rows i (m - i)) items)) ≡ sets codes₀ 0 (codes_in (draw_rows (rows_from rows 0 m) items))
-  pub numbers_last : sets numbers to (numbers_in (draw_rows (rows_from rows i (m - i)) items)) ≡ sets numbers₀ 0 (numbers_in (draw_rows (rows_from rows 0 m) items))
-  pub codes_room : at + length (codes_in (draw_rows (rows_from rows i (m - i)) items)) ≤ length codes
-  pub numbers_room : to + length (numbers_in (draw_rows (rows_from rows i (m - i)) items)) ≤ length numbers
+pub record Joining (rows : List (List ℕ)) (items : List Float) (codes₀ : List ℕ) (numbers₀ : List Float) (codes : List ℕ) (numbers : List Float) (at to i : ℕ) : Type 0 where
+  pub inside : i ≤ length rows
+  pub drawn_rest : is_accepted (draw_rows (map row_of (drop i rows)) items) ≡ true
+  pub codes_last : sets codes at (codes_in (draw_rows (map row_of (drop i rows)) items)) ≡ sets codes₀ 0 (codes_in (draw_rows (map row_of rows) items))
+  pub numbers_last : sets numbers to (numbers_in (draw_rows (map row_of (drop i rows)) items)) ≡ sets numbers₀ 0 (numbers_in (draw_rows (map row_of rows) items))
+  pub codes_room : at + length (codes_in (draw_rows (map row_of (drop i rows)) items)) ≤ length codes
+  pub numbers_room : to + length (numbers_in (draw_rows (map row_of (drop i rows)) items)) ≤ length numbers
   pub codes_same : length codes ≡ length codes₀
   pub numbers_same : length numbers ≡ length numbers₀
 
-module _ (rows : List ℕ) (m : ℕ) (items : List Float) (codes₀ : List ℕ) (numbers₀ : List Float) where
-  pub joining_start : is_accepted (draw_rows (rows_from rows 0 m) items) ≡ true → length (codes_in (draw_rows (rows_from rows 0 m) items)) ≤ length codes₀
-      → length (numbers_in (draw_rows (rows_from rows 0 m) items)) ≤ length numbers₀ → Joining rows m items codes₀ numbers₀ codes₀ numbers₀ 0 0 0
+module _ (rows : List (List ℕ)) (items : List Float) (codes₀ : List ℕ) (numbers₀ : List Float) where
+  pub joining_start : is_accepted (draw_rows (map row_of rows) items) ≡ true → length (codes_in (draw_rows (map row_of rows) items)) ≤ length codes₀
+      → length (numbers_in (draw_rows (map row_of rows) items)) ≤ length numbers₀ → Joining rows items codes₀ numbers₀ codes₀ numbers₀ 0 0 0
   joining_start e h g = record {
     inside = zero-le;
-    drawn_rest = rw (rest_all rows m) e;
-    codes_last = rw (rest_all rows m);
-    numbers_last = rw (rest_all rows m);
-    codes_room = rw (rest_all rows m, zero-add) h;
-    numbers_room = rw (rest_all rows m, zero-add) g;
+    drawn_rest = e;
+    codes_last = refl;
+    numbers_last = refl;
+    codes_room = rw zero-add h;
+    numbers_room = rw zero-add g;
     codes_same = refl;
     numbers_same = refl;
   }
 
-  module _ (codes : List ℕ) (numbers : List Float) (at to i : ℕ) (w : Joining rows m items codes₀ numbers₀ codes numbers at to i) where
-    pub row_there : i < m → 6 * m ≤ length rows → 6 * i + 6 ≤ length rows
-    row_there h g = omega arith
+  module _ (codes : List ℕ) (numbers : List Float) (at to i : ℕ) (w : Joining rows items codes₀ numbers₀ codes numbers at to i) where
+    pub codes_joined : length rows ≤ i → codes ≡ sets codes₀ 0 (codes_in (draw_rows (map row_of rows) items))
+    codes_joined h = rw (rows_over rows items i h) at w.codes_last
 
-    pub codes_joined : m ≤ i → codes ≡ sets codes₀ 0 (codes_in (draw_rows (rows_from rows 0 m) items))
-    codes_joined h = rw (rows_over rows m items i h) at w.codes_last
+    pub numbers_joined : length rows ≤ i → numbers ≡ sets numbers₀ 0 (numbers_in (draw_rows (map row_of rows) items))
+    numbers_joined h = rw (rows_over rows items i h) at w.numbers_last
 
-    pub numbers_joined : m ≤ i → numbers ≡ sets numbers₀ 0 (numbers_in (draw_rows (rows_from rows 0 m) items))
-    numbers_joined h = rw (rows_over rows m items i h) at w.numbers_last
-
-    module _ (h : i < m) (row : ItemRow) (row_is : row ≡ item_row rows i) where
+    module _ (h : i < length rows) (row : ItemRow) (row_is : row ≡ row_of (get_or rows i [])) where
       abbrev rest : Outcome (List PathCommand)
-      rest = draw_rows (rows_from rows (i + 1) (m - (i + 1))) items
+      rest = draw_rows (map row_of (drop (i + 1) rows)) items
 
-      rest_is : draw_rows (rows_from rows i (m - i)) items ≡ followed_by (draw_row row items) rest
-      rest_is = rows_split rows m items i h ∙ ap (λ (r : ItemRow). followed_by (draw_row r items) rest) (sym row_is)
+      rest_is : draw_rows (map row_of (drop i rows)) items ≡ followed_by (draw_row row items) rest
+      rest_is = rows_split rows items i h ∙ ap (λ (r : ItemRow). followed_by (draw_row r items) rest) (sym row_is)
 
       two : Parts (draw_row row items) rest
       two = parts (draw_row row items) rest (rw rest_is at w.drawn_rest)
 
-      codes_two : codes_in (draw_rows (rows_from rows i (m - i)) items) ≡ codes_in (draw_row row items) ++ codes_in rest
+      codes_two : codes_in (draw_rows (map row_of (drop i rows)) items) ≡ codes_in (draw_row row items) ++ codes_in rest
       codes_two = ap codes_in rest_is ∙ ap codes_of two.both ∙ codes_append (list_of (draw_row row items)) (list_of rest)
 
-      numbers_two : numbers_in (draw_rows (rows_from rows i (m - i)) items) ≡ numbers_in (draw_row row items) ++ numbers_in rest
+      numbers_two : numbers_in (draw_rows (map row_of (drop i rows)) items) ≡ numbers_in (draw_row row items) ++ numbers_in rest
       numbers_two = ap numbers_in rest_is ∙ ap numbers_of two.both ∙ numbers_append (list_of (draw_row row items)) (list_of rest)
 
-      codes_lengths : length (codes_in (draw_rows (rows_from rows i (m - i)) items)) ≡ length (codes_in (draw_row row items)) + length (codes_in rest)
+      codes_lengths : length (codes_in (draw_rows (map row_of (drop i rows)) items)) ≡ length (codes_in (draw_row row items)) + length (codes_in rest)
       codes_lengths = ap length codes_two ∙ length-append (codes_in (draw_row row items)) (codes_in rest)
 
-      numbers_lengths : length (numbers_in (draw_rows (rows_from rows i (m - i)) items)) ≡ length (numbers_in (draw_row row items)) + length (numbers_in rest)
+      numbers_lengths : length (numbers_in (draw_rows (map row_of (drop i rows)) items)) ≡ length (numbers_in (draw_row row items)) + length (numbers_in rest)
       numbers_lengths = ap length numbers_two ∙ length-append (numbers_in (draw_row row items)) (numbers_in rest)
 
       pub row_drawn : is_accepted (draw_row row items) ≡ true
@@ -371,7 +369,7 @@ module _ (rows : List ℕ) (m : ℕ) (items : List Float) (codes₀ : List ℕ) 
       pub joining_more : (codes' : List ℕ) (numbers' : List Float) (at' to' : ℕ)
           → at' ≡ at + length (codes_in (draw_row row items)) → to' ≡ to + length (numbers_in (draw_row row items))
           → codes' ≡ sets codes at (codes_in (draw_row row items)) → numbers' ≡ sets numbers to (numbers_in (draw_row row items))
-          → Joining rows m items codes₀ numbers₀ codes' numbers' at' to' (i + 1)
+          → Joining rows items codes₀ numbers₀ codes' numbers' at' to' (i + 1)
       joining_more codes' numbers' at' to' p q c n =
           let x : length codes' ≡ length codes = ap length c ∙ length-sets codes at (codes_in (draw_row row items)) in
           let y : length numbers' ≡ length numbers = ap length n ∙ length-sets numbers to (numbers_in (draw_row row items)) in
@@ -388,7 +386,7 @@ module _ (rows : List ℕ) (m : ℕ) (items : List Float) (codes₀ : List ℕ) 
             numbers_same = y ∙ w.numbers_same;
           }
 
-pub ruleset rows_writes = (joining_start, row_there, codes_joined, numbers_joined, row_drawn, codes_there, numbers_there, joining_more)
+pub ruleset rows_writes = (joining_start, codes_joined, numbers_joined, row_drawn, codes_there, numbers_there, joining_more)
 
 -- ---- join_rows
 module _ (o : Outcome (List PathCommand)) (codes : List ℕ) (numbers : List Float) (need : Outcome Size) (is : mapped pair_of need ≡ need_of o) where
@@ -490,13 +488,14 @@ module _ (rows : List ℕ) (n : ℕ) (items : List Float) (k : Outcome ℕ) (is 
     pub merge_inside : Settled rows k → 6 * m ≤ length rows
     merge_inside s = (joined_settled s).1
 
-    pub merge_joined : (codes codes' : List ℕ) (numbers numbers' : List Float) (r : Outcome Size)
-        → FilledBoth (fitted (in_buffers (length codes) (length numbers)) (draw_rows (rows_from rows 0 m) items)) (number_of r) (codes_told r) (numbers_told r) codes codes' numbers numbers'
+    pub merge_joined : (first : List ItemRow) → first ≡ rows_from rows 0 m → (codes codes' : List ℕ) (numbers numbers' : List Float) (r : Outcome Size)
+        → FilledBoth (fitted (in_buffers (length codes) (length numbers)) (draw_rows first items)) (number_of r) (codes_told r) (numbers_told r) codes codes' numbers numbers'
         → FilledBoth (fitted (in_buffers (length codes) (length numbers)) merged) (number_of r) (codes_told r) (numbers_told r) codes codes' numbers numbers'
-    merge_joined codes codes' numbers numbers' r f = rw (← joined_is) f
+    merge_joined first first_is codes codes' numbers numbers' r f = rw (← joined_is, ← first_is) f
 
-    pub merge_need_joined : (r : Outcome Size) → mapped pair_of r ≡ need_of (draw_rows (rows_from rows 0 m) items) → mapped pair_of r ≡ need_of merged
-    merge_need_joined r f = f ∙ ap need_of joined_is
+    pub merge_need_joined : (first : List ItemRow) → first ≡ rows_from rows 0 m → (r : Outcome Size) → mapped pair_of r ≡ need_of (draw_rows first items)
+        → mapped pair_of r ≡ need_of merged
+    merge_need_joined first first_is r f = f ∙ ap (λ (rs : List ItemRow). need_of (draw_rows rs items)) first_is ∙ ap need_of joined_is
 
 pub ruleset merges = (merge_refused, merge_few, merge_inside, merge_joined)
 

@@ -1,12 +1,12 @@
 // The sources of a merge drawn one after another: judged and counted whole, then written.
 #![tactic(auto)]
 
-ghost use Rattle.std.specs.Prelude.{◌≡◌, true, ◌+◌, ◌*◌, ◌≤◌, length};
+ghost use Rattle.std.specs.Prelude.{◌≡◌, true, ◌+◌, ◌≤◌, length, map};
 ghost use Rattle.std.proofs.lemmas.List.Edits.{sets};
 ghost use Rattle.command.specs.Commands.{codes_of, numbers_of};
 ghost use Rattle.command.specs.Outcomes.{list_of, mapped, number_of};
 ghost use Rattle.command.specs.Buffers.{in_buffers, fitted, pair_of, codes_told, numbers_told, FilledBoth, need_of};
-ghost use Rattle.nest.specs.Lists.{rows_from};
+ghost use Rattle.item.specs.Rows.{row_of};
 ghost use Rattle.join.specs.Merge.{draw_merge};
 ghost use Rattle.join.specs.Sources.{is_accepted, draw_row, draw_rows};
 
@@ -28,16 +28,16 @@ fn row_need(row: ItemRow, items: &[f32]) -> Outcome<Size>
     }
 }
 
-// What the sources among the first m rows need together, or the first refusal of one.
+// What the sources among rows need together, or the first refusal of one.
 #[tactic(auto, using(crate::proofs::Ways::rows_needs))]
-fn rows_need(rows: &[u32], m: usize, items: &[f32]) -> Outcome<Size>
-    requires { (m ≤ 256) × (6 * m ≤ length rows.now) }
-    ensures { mapped pair_of result ≡ need_of (draw_rows (rows_from rows.now 0 m) items.now) }
+fn rows_need(rows: &[[u32; 6]], items: &[f32]) -> Outcome<Size>
+    requires { length rows.now ≤ 256 }
+    ensures { mapped pair_of result ≡ need_of (draw_rows (map row_of rows.now) items.now) }
 {
     let mut codes = 0;
     let mut numbers = 0;
-    for i in 0..m {
-        let need = row_need(item::item_row(rows, i), items)?;
+    for entries in rows {
+        let need = row_need(ItemRow::from(*entries), items)?;
         codes += need.codes;
         numbers += need.numbers;
     }
@@ -78,39 +78,43 @@ fn write_row(
     }
 }
 
-// Writes what the first m rows draw from the start of buffers that it fits.
+// Writes what rows draw from the start of buffers that it fits.
 #[tactic(auto, using(crate::proofs::Ways::rows_writes))]
-fn write_rows(rows: &[u32], m: usize, items: &[f32], codes: &mut [u8], numbers: &mut [f32])
-    requires m_in_bounds { 6 * m ≤ length rows.now }
-    requires value { is_accepted (draw_rows (rows_from rows.now 0 m) items.now) ≡ true }
-    requires in_bounds { length (codes_of (list_of (draw_rows (rows_from rows.now 0 m) items.now))) ≤ length codes.old }
-    requires in_bounds_2 { length (numbers_of (list_of (draw_rows (rows_from rows.now 0 m) items.now))) ≤ length numbers.old }
-    ensures codes_after { codes.new ≡ sets codes.old 0 (codes_of (list_of (draw_rows (rows_from rows.now 0 m) items.now))) }
-    ensures numbers_after { numbers.new ≡ sets numbers.old 0 (numbers_of (list_of (draw_rows (rows_from rows.now 0 m) items.now))) }
+fn write_rows(rows: &[[u32; 6]], items: &[f32], codes: &mut [u8], numbers: &mut [f32])
+    requires value { is_accepted (draw_rows (map row_of rows.now) items.now) ≡ true }
+    requires in_bounds { length (codes_of (list_of (draw_rows (map row_of rows.now) items.now))) ≤ length codes.old }
+    requires in_bounds_2 { length (numbers_of (list_of (draw_rows (map row_of rows.now) items.now))) ≤ length numbers.old }
+    ensures codes_after { codes.new ≡ sets codes.old 0 (codes_of (list_of (draw_rows (map row_of rows.now) items.now))) }
+    ensures numbers_after { numbers.new ≡ sets numbers.old 0 (numbers_of (list_of (draw_rows (map row_of rows.now) items.now))) }
 {
     let mut at = 0;
     let mut to = 0;
-    for i in 0..m {
-        let next = write_row(item::item_row(rows, i), items, codes, at, numbers, to);
+    for entries in rows {
+        let next = write_row(ItemRow::from(*entries), items, codes, at, numbers, to);
         at = next.codes;
         to = next.numbers;
     }
 }
 
-// Draws the sources among the first m rows into two buffers, if they fit.
+// Draws the sources among rows into two buffers, if they fit.
 #[tactic(auto, using(crate::proofs::Ways::joins))]
-fn join_rows(rows: &[u32], m: usize, items: &[f32], codes: &mut [u8], numbers: &mut [f32]) -> Outcome<Size>
-    requires { (m ≤ 256) × (6 * m ≤ length rows.now) }
+fn join_rows(
+    rows: &[[u32; 6]],
+    items: &[f32],
+    codes: &mut [u8],
+    numbers: &mut [f32],
+) -> Outcome<Size>
+    requires { length rows.now ≤ 256 }
     ensures { FilledBoth
-        (fitted (in_buffers (length codes.old) (length numbers.old)) (draw_rows (rows_from rows.now 0 m) items.now))
+        (fitted (in_buffers (length codes.old) (length numbers.old)) (draw_rows (map row_of rows.now) items.now))
         (number_of result) (codes_told result) (numbers_told result)
         codes.old codes.new numbers.old numbers.new }
 {
-    let need = rows_need(rows, m, items)?;
+    let need = rows_need(rows, items)?;
     if need.codes > codes.len() || need.numbers > numbers.len() {
         return Err(Refusal::BufferTooSmall);
     }
-    write_rows(rows, m, items, codes, numbers);
+    write_rows(rows, items, codes, numbers);
     Ok(need)
 }
 
@@ -129,7 +133,7 @@ pub fn draw_merge(
         codes.old codes.new numbers.old numbers.new }
 {
     let m = merge::decide(rows, n)?;
-    join_rows(rows, m, items, codes, numbers)
+    join_rows(nest::rows_before(rows, m), items, codes, numbers)
 }
 
 // What the merge of the first n rows needs, or why it is refused.
@@ -138,5 +142,5 @@ pub fn merge_need(rows: &[u32], n: usize, items: &[f32]) -> Outcome<Size>
     ensures { mapped pair_of result ≡ need_of (draw_merge rows.now n items.now) }
 {
     let m = merge::decide(rows, n)?;
-    rows_need(rows, m, items)
+    rows_need(nest::rows_before(rows, m), items)
 }

@@ -81,7 +81,10 @@ length_chunks : {X : Type 0} (size k : ℕ) (xs : List X) → length (first_chun
 length_chunks size zero xs = refl
 length_chunks size (suc k) xs = ap suc (length_chunks size k (drop size xs))
 
-pub rows_first : (rows : List ℕ) (n k : ℕ) → n ≤ length (first_chunks 6 k rows) → map row_of (slice_range (first_chunks 6 k rows) 0 n) ≡ rows_from rows 0 n
-rows_first rows n k h =
-    let e : length (first_chunks 6 k rows) ≡ k = length_chunks 6 k rows in
-    ap (λ (m : ℕ). map row_of (take m (first_chunks 6 k rows))) (sub-zero n) ∙ ap (map row_of) (take_chunks 6 n k rows (omega arith)) ∙ rows_cut rows n
+pub rows_taken : (rows : List ℕ) (n k : ℕ) (cut : List (List ℕ)) → cut ≡ first_chunks 6 k rows → n ≤ length cut → map row_of (take n cut) ≡ rows_from rows 0 n
+rows_taken rows n k cut is h =
+    let e : length cut ≡ k = ap length is ∙ length_chunks 6 k rows in
+    ap (λ (l : List (List ℕ)). map row_of (take n l)) is ∙ ap (map row_of) (take_chunks 6 n k rows (omega arith)) ∙ rows_cut rows n
+
+pub rows_first : (rows : List ℕ) (n k : ℕ) (cut : List (List ℕ)) → cut ≡ first_chunks 6 k rows → n ≤ length cut → map row_of (slice_range cut 0 n) ≡ rows_from rows 0 n
+rows_first rows n k cut is h = ap (λ (m : ℕ). map row_of (take m cut)) (sub-zero n) ∙ rows_taken rows n k cut is h

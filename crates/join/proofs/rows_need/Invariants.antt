@@ -2,6 +2,5 @@
 use Rattle.join.proofs.Ways.{Needing}
 use Rattle.join.proofs.rows_need.Given as goal
 
-abbrev pub invariant-loop-i : goal.invariant-loop-i
-invariant-loop-i l = Needing l.rows l.m l.items l.codes l.numbers l.i
-
+abbrev pub invariant-loop-entries : goal.invariant-loop-entries
+invariant-loop-entries l = Needing l.rows l.items l.codes l.numbers l.entries-index

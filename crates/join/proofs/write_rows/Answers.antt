@@ -3,5 +3,5 @@ use borrow.Author.Rules.{rules}
 use Rattle.join.proofs.Ways.{rows_writes}
 use Rattle.join.proofs.write_rows.Goals as goal
 
-pub loop-i-preserved : goal.loop-i-preserved
-loop-i-preserved c = search (rules, rows_writes)
+pub loop-entries-preserved : goal.loop-entries-preserved
+loop-entries-preserved c = search (rules, rows_writes)
