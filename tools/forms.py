@@ -99,7 +99,7 @@ def travellers(root):
 
 POINTS = [
     ("1 own Option or Result, flags and sentinels", lambda root: lines_where(root, r"^\s+(Refused|Fault|Nowhere|End)\b.*,$|^\s+(pub )?(finite: bool|doubt: u64),|4294967296")),
-    ("1 numbers for kinds", lambda root: lines_where(root, r"^\s*(pub )?(kind|hidden|mark|mode|closed): (u32|u8),$|[( ](kind|mark|mode|closed): (u32|u8)[,)]|-> u32\b")),
+    ("1 numbers for kinds", lambda root: lines_where(root, r"^\s*(pub )?(kind|hidden|mark|mode|closed): (u32|u8),$|[( ](kind|mark|mode|closed): (u32|u8)[,)]|fn \w*number\(")),
     ("2 twins", twins),
     ("3 loops that count by hand", lambda root: lines_where(root, r"^\s*while ")),
     ("4 tests nested in place of && and ||", lambda root: lines_where(root, r"^\s*(\} else \{ )?(if .* \{ )?(true|false)( \}.*)?$|\{ (true|false) \} else|else \{ (true|false) \}")),

@@ -20,7 +20,6 @@ ghost use Rattle.reach.specs.Reach.{length_reaches, Replied};
 ghost use Rattle.cut.specs.Answers.{ranges_answer, lengths_answer, Placed};
 ghost use Rattle.copies.specs.Calls.{repeater_of, order_answer, transform_answer};
 
-
 use trim::TrimStyle;
 
 #[unsafe(no_mangle)]

@@ -25,12 +25,7 @@ fn print_reached<W: Write>(out: &mut W, reached: Outcome<(bool, usize)>) -> io::
 
 // Writes where a command's numbers stand, and below it the number that is handed back beside the part, how many numbers
 // the part has, and the part.
-fn print_command<W: Write>(
-    out: &mut W,
-    codes: &[u8],
-    numbers: &[f32],
-    k: usize,
-) -> io::Result<()> {
+fn print_command<W: Write>(out: &mut W, codes: &[u8], numbers: &[f32], k: usize) -> io::Result<()> {
     match judge::find_command(codes, numbers, k) {
         Err(refusal) => pattern_text::print_refusal(out, refusal)?,
         Ok((start, count)) => writeln!(out, "numbers {start} {count}")?,
@@ -58,7 +53,10 @@ fn answer<W: Write>(out: &mut W, line: &str, call: Call<'_>) -> io::Result<()> {
 }
 
 fn main(rt: HostRuntime) -> io::Result<()> {
-    pattern_text::run(rt.alloc(), rt.stdin(), &mut rt.stdout(), |out, line, call| {
-        answer(out, line, call)
-    })
+    pattern_text::run(
+        rt.alloc(),
+        rt.stdin(),
+        &mut rt.stdout(),
+        |out, line, call| { answer(out, line, call) },
+    )
 }
