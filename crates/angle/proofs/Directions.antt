@@ -1,6 +1,6 @@
 -- The cosine and the sine of an angle as the code makes them, and that a zero among them is +0. Assumes nothing.
-use Rattle.std.proofs.Common.{◌≡◌, ℕ, ◌^◌, ◌<◌, ◌≤◌, Bool, true, false, ltb, sym, refl, ap, ◌∙◌, subst, arith, lit<, ltb-false, ltb-true}
-use lib.Ieee.{Float, binary32, round}
+use Rattle.std.proofs.Common.{◌≡◌, ℕ, ◌^◌, ◌<◌, ◌≤◌, Bool, true, false, pos, ltb, sym, refl, ap, ◌∙◌, subst, arith, lit<, ltb-false, ltb-true}
+use lib.Ieee.{Float, binary32, round, of_int, div, neg}
 use Rattle.ieee.specs.Literal.{zero32}
 use Rattle.ieee.specs.Sign.{is_zero}
 use Rattle.ieee.specs.Cut.{cut}
@@ -12,19 +12,25 @@ use Rattle.sine.specs.Quadrants.{fold_of, size_of, minus_of, on_of}
 use Rattle.sine.specs.Table.{entry}
 use Rattle.sine.proofs.Entries.{table_rises, entry_bound}
 use Rattle.sine.proofs.Ways.{fold_3, fold_4, on_1, on_2}
-use Rattle.sine.proofs.Turn.{fold_bound}
-use Rattle.angle.proofs.Entries.{over}
+use Rattle.sine.proofs.WholeTurn.{fold_bound}
+use Rattle.angle.proofs.Entries.{whole, over, entry_plus, entry_minus}
 use Rattle.angle.specs.Direction.{sine_of, cosine_of, direction_of, ZerosArePlus}
 
-sine_way : (turn n : ℕ) (x : Float) → n ≡ size_of turn → x ≡ round binary32 (ltb 2880 turn) n (2 ^ 30) → x ≡ sine_of turn
-unfolding sine_of minus_of
-sine_way turn n x n_is x_is = x_is ∙ ap (λ (k : ℕ). round binary32 (ltb 2880 turn) k (2 ^ 30)) n_is
+sine_way : (turn n : ℕ) (minus : Bool) (x : Float) → n ≡ size_of turn → minus ≡ minus_of turn → x ≡ round binary32 minus n (2 ^ 30) → x ≡ sine_of turn
+unfolding sine_of
+sine_way turn n minus x n_is minus_is x_is = x_is ∙ (λ i. round binary32 (minus_is i) (n_is i) (2 ^ 30))
 
-pub direction_way : (turn on c s : ℕ) (x y : Float) → on ≡ on_of turn → c ≡ size_of on → x ≡ round binary32 (ltb 2880 on) c (2 ^ 30)
-    → s ≡ size_of turn → y ≡ round binary32 (ltb 2880 turn) s (2 ^ 30) → record { cosine = x; sine = y } ≡ direction_of turn
+-- ---- as `sine_at` meets them
+module _ (turn n : ℕ) (x : Float) (x_is : x ≡ of_int binary32 (pos n)) (n_is : n ≡ size_of turn) (few : n ≤ 2 ^ 30) (minus : Bool) (minus_is : minus ≡ minus_of turn) where
+  pub sine_plus : minus ≡ false → div binary32 x whole ≡ sine_of turn
+  sine_plus h = sine_way turn n minus (div binary32 x whole) n_is minus_is (entry_plus n few minus x x_is h)
+
+  pub sine_minus : minus ≡ true → neg (div binary32 x whole) ≡ sine_of turn
+  sine_minus h = sine_way turn n minus (neg (div binary32 x whole)) n_is minus_is (entry_minus n few minus x x_is h)
+
+pub direction_way : (turn on : ℕ) (x y : Float) → on ≡ on_of turn → x ≡ sine_of on → y ≡ sine_of turn → record { cosine = x; sine = y } ≡ direction_of turn
 unfolding cosine_of direction_of
-direction_way turn on c s x y on_is c_is x_is s_is y_is =
-    λ i. record { cosine = (sine_way on c x c_is x_is ∙ ap sine_of on_is) i; sine = sine_way turn s y s_is y_is i }
+direction_way turn on x y on_is x_is y_is = λ i. record { cosine = (x_is ∙ ap sine_of on_is) i; sine = y_is i }
 
 -- ---- zeros
 -- between 180 and 360 degrees no entry is zero

@@ -9,7 +9,7 @@ use Rattle.ieee.proofs.Round.{round_cut, round_own, neg_round}
 use Rattle.ieee.proofs.Operations.{div_at}
 
 -- 2 ^ 30
-abbrev whole : Float
+abbrev pub whole : Float
 whole = of_bits binary32 0x4e80_0000
 
 whole_value : HasValue whole false (2 ^ 30) 1
@@ -33,7 +33,7 @@ module _ (n : ℕ) (few : n ≤ 2 ^ 30) where
       ∙ (λ i. round binary32 false (mul-one (cut 24 n) i) (mul-one (2 ^ 30) i))
       ∙ round_own binary32 (round binary32 false n (2 ^ 30)) false (cut 24 n) (2 ^ 30) (round-fits binary32 false n (2 ^ 30)) (pow_pos 30) (over false)
 
--- ---- as `ratio` meets them
+-- ---- with its sign
 module _ (n : ℕ) (few : n ≤ 2 ^ 30) (minus : Bool) (x : Float) (x_is : x ≡ of_int binary32 (pos n)) where
   quotient : div binary32 x whole ≡ round binary32 false n (2 ^ 30)
   quotient = ap (λ (y : Float). div binary32 y whole) x_is ∙ ratio n few
@@ -43,5 +43,3 @@ module _ (n : ℕ) (few : n ≤ 2 ^ 30) (minus : Bool) (x : Float) (x_is : x ≡
 
   pub entry_minus : minus ≡ true → neg (div binary32 x whole) ≡ round binary32 minus n (2 ^ 30)
   entry_minus h = ap neg quotient ∙ neg_round binary32 n (2 ^ 30) ∙ ap (λ (s : Bool). round binary32 s n (2 ^ 30)) (sym h)
-
-pub ruleset entries = (entry_plus, entry_minus)

@@ -65,11 +65,11 @@ module _ (x : Float) (inside : within number_limit x ≡ true) (n : ℕ) (n_is :
   bounded : Bounded (2 ^ 20) x
   bounded = within→bounded (2 ^ 20) number_limit x limit_value inside
 
-  pub turned_back : lt x zero32 ≡ true → ((5760 - n % 5760) % 5760 ≡ turn_of x) × ((5760 - n % 5760) % 5760 < 5760)
-  turned_back h = (ap (λ (k : ℕ). (5760 - k % 5760) % 5760) n_is ∙ turn_back x bounded h, omega arith)
+  pub turned_back : (turn : ℕ) → turn ≡ (5760 - n % 5760) % 5760 → lt x zero32 ≡ true → turn ≡ turn_of x
+  turned_back turn e h = e ∙ ap (λ (k : ℕ). (5760 - k % 5760) % 5760) n_is ∙ turn_back x bounded h
 
-  pub turned_forth : lt x zero32 ≡ false → (n % 5760 ≡ turn_of x) × (n % 5760 < 5760)
-  turned_forth h = (ap (λ (k : ℕ). k % 5760) n_is ∙ turn_forth x bounded h, omega arith)
+  pub turned_forth : (turn : ℕ) → turn ≡ n % 5760 → lt x zero32 ≡ false → turn ≡ turn_of x
+  turned_forth turn e h = e ∙ ap (λ (k : ℕ). k % 5760) n_is ∙ turn_forth x bounded h
 
 -- ---- an angle of zero, of either sign
 zero_reduced : (s : Bool) (n : ℕ) → n ≡ 0 → reduced (cond s (neg_ℤ (pos n)) (pos n)) ≡ 0

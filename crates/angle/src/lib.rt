@@ -1,13 +1,13 @@
-// An angle: degrees as a whole number of sixteenths of a degree, and the cosine and the sine of such a number.
+// An angle: degrees as a whole number of sixteenths of a degree, and the cosine and the sine of where it points.
 #![tactic(auto)]
 
-ghost use Rattle.std.specs.Prelude.{◌≡◌, ◌^◌, ◌<◌, ◌≤◌, true};
+ghost use Rattle.std.specs.Prelude.{◌≡◌, ◌^◌, ◌≤◌, true};
 ghost use Rattle.ieee.specs.Literal.{number_limit};
 ghost use Rattle.ieee.specs.Limit.{within};
-ghost use Rattle.std.specs.Float.Ieee as Ieee;
-ghost use Rattle.std.specs.Float.{binary32};
 ghost use Rattle.angle.specs.Sixteenths.{sixteenths_in, turn_of};
-ghost use Rattle.angle.specs.Direction.{direction_of};
+ghost use Rattle.angle.specs.Direction.{sine_of, direction_of};
+
+use sine::Turn;
 
 // The cosine and the sine of an angle.
 #[derive(Clone, Copy)]
@@ -26,35 +26,35 @@ fn sixteenths(degrees: f32) -> u64
     (halves + 1) / 2
 }
 
-// Where an angle of at most 1,048,576 degrees points, in sixteenths of a degree from 0 to 5,759.
+// Where an angle of at most 1,048,576 degrees points.
 #[tactic(auto, using(crate::proofs::Reduced::turned_back, crate::proofs::Reduced::turned_forth))]
-pub fn turn(degrees: f32) -> usize
+pub fn turn(degrees: f32) -> Turn
     requires { within number_limit degrees ≡ true }
-    ensures { (result ≡ turn_of degrees) × (result < 5760) }
+    ensures { result.sixteenths ≡ turn_of degrees }
 {
-    let n = (sixteenths(degrees) % 5760) as usize;
-    if degrees < 0.0 { (5760 - n) % 5760 } else { n }
+    let n = sixteenths(degrees) as usize;
+    if degrees < 0.0 {
+        Turn::by_sixteenths(5760 - n % 5760)
+    } else {
+        Turn::by_sixteenths(n)
+    }
 }
 
-// The f32 nearest to an entry of the table of sines over 2^30, with a sign. The quotient is exact.
-#[tactic(auto, using(crate::proofs::Entries::entries))]
-fn ratio(minus: bool, entry: u32) -> f32
-    requires { entry ≤ 2 ^ 30 }
-    ensures { result ≡ Ieee.round binary32 minus entry (2 ^ 30) }
+// The sine of a turn: the f32 nearest to its entry of the table over 2^30, with its sign. The quotient is exact.
+fn sine_at(turn: Turn) -> f32
+    ensures { result ≡ sine_of turn.sixteenths }
 {
-    let x = std::num::nearest_u32_to_f32(entry) / 1073741824.0;
-    if minus { -x } else { x }
+    let size = std::num::nearest_u32_to_f32(turn.size()) / 1073741824.0;
+    if turn.is_minus() { -size } else { size }
 }
 
-// The direction of a reduced angle.
+// The cosine and the sine of a turn.
 #[tactic(auto, using(crate::proofs::Directions::direction_way))]
-pub fn direction_at(turn: usize) -> Direction
-    requires { turn < 5760 }
-    ensures { result ≡ direction_of turn }
+pub fn direction_at(turn: Turn) -> Direction
+    ensures { result ≡ direction_of turn.sixteenths }
 {
-    let on = sine::onward(turn);
     Direction {
-        cosine: ratio(2880 < on, sine::size_at(on)),
-        sine: ratio(2880 < turn, sine::size_at(turn)),
+        cosine: sine_at(turn.onward()),
+        sine: sine_at(turn),
     }
 }

@@ -99,7 +99,7 @@ impl Matrix {
         ensures { result ≡ spec.pre_rotate self degrees }
     {
         let turn = angle::turn(degrees);
-        if turn == 0 {
+        if turn.sixteenths == 0 {
             self
         } else {
             self.rotated(angle::direction_at(turn))

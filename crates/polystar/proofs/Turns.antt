@@ -42,9 +42,9 @@ steps_back (pos n) (suc s) = difference n (suc s) ∙ omega arith
 steps_back (negsuc n) (suc s) = omega arith
 
 -- ---- start_of
-pub first_stands : (rotation : Float) (turn : ℕ) → turn ≡ turn_of rotation → ((turn + 4320) % 5760 ≡ start_of rotation) × ((turn + 4320) % 5760 < 5760)
+pub first_stands : (rotation : Float) (turn n start : ℕ) → start ≡ (n + 4320) % 5760 → n ≡ turn → turn ≡ turn_of rotation → start ≡ start_of rotation
 unfolding turn_of
-first_stands rotation turn e = (rw e (sym (steps_back (sixteenths_of rotation) 1440)), omega arith)
+first_stands rotation turn n start s_is n_is e = s_is ∙ (rw (n_is, e) (sym (steps_back (sixteenths_of rotation) 1440)))
 
 -- ---- turn_at
 few_steps : (k count : ℕ) → k < count → count ≤ 1024 → 11520 * k + count < 5760 * (2 * count)
@@ -60,9 +60,6 @@ behind : (start s : ℕ) → start < 5760 → s < 5760 → (start + 5760 - s) % 
 behind start s h g =
     let e : start + 5760 - s ≡ start + (5760 - s) = omega arith in
     rw (unreduced start h, unreduced s g) (ap (λ (n : ℕ). n % 5760) e)
-
-small : (n : ℕ) → n % 5760 < 5760
-small n = omega arith
 
 module _ (count start k : ℕ) (inside : k < count) (few : count ≤ 1024) (turned : start < 5760) where
   abbrev steps : ℕ
@@ -82,20 +79,19 @@ module _ (count start k : ℕ) (inside : k < count) (few : count ≤ 1024) (turn
   pub steps_fit : Fits w64 (start + steps)
   steps_fit = record { fits = omega (arith, steps_few) }
 
-  pub turned_back : (reversed : Bool) → reversed ≡ true
-      → ((start + 5760 - steps) % 5760 ≡ turn_from count start reversed k) × ((start + 5760 - steps) % 5760 < 5760)
+  pub turned_back : (turn : ℕ) → turn ≡ (start + 5760 - steps) % 5760 → (reversed : Bool) → reversed ≡ true → turn ≡ turn_from count start reversed k
   unfolding turn_from reduced
-  turned_back reversed e =
+  turned_back turn turn_is reversed e =
       let is : (start + 5760 - steps) % 5760 ≡ reduced (pos start -ℤ pos (steps_to count k)) =
       behind start steps turned steps_few ∙ sym (steps_back (pos start) steps) ∙ ap (λ (n : ℕ). reduced (pos start -ℤ pos n)) same in
-      (rw e is, small (start + 5760 - steps))
+      turn_is ∙ (rw e is)
 
-  pub turned_on : (reversed : Bool) → reversed ≡ false → ((start + steps) % 5760 ≡ turn_from count start reversed k) × ((start + steps) % 5760 < 5760)
+  pub turned_on : (turn : ℕ) → turn ≡ (start + steps) % 5760 → (reversed : Bool) → reversed ≡ false → turn ≡ turn_from count start reversed k
   unfolding turn_from reduced
-  turned_on reversed e =
+  turned_on turn turn_is reversed e =
       let is : (start + steps) % 5760 ≡ reduced (pos start +ℤ pos (steps_to count k)) =
       ahead start steps turned ∙ sym (steps_on (pos start) steps) ∙ ap (λ (n : ℕ). reduced (pos start +ℤ pos n)) same in
-      (rw e is, small (start + steps))
+      turn_is ∙ (rw e is)
 
 pub ruleset turns = (steps_inside, steps_fit)
 

@@ -14,6 +14,7 @@ use angle::Direction;
 use command::Refusal;
 use path::BezierVertex;
 use point::Point;
+use sine::Turn;
 
 // The points at one distance from the centre, and how long their tangents are, with a sign.
 #[derive(Clone, Copy)]
@@ -152,11 +153,11 @@ fn ring_of(mark: Mark, count: usize, radius: f32, roundness: f32) -> Ring
 }
 
 // Where the first point stands.
-fn start_of(rotation: f32) -> usize
+fn start_of(rotation: f32) -> Turn
     requires { within number_limit rotation ≡ true }
-    ensures { (result ≡ spec.start_of rotation) × (result < 5760) }
+    ensures { result.sixteenths ≡ spec.start_of rotation }
 {
-    (angle::turn(rotation) + 4320) % 5760
+    Turn::by_sixteenths(angle::turn(rotation).sixteenths + 4320)
 }
 
 // The inner points of a star; those of a polygon are outer ones.
@@ -181,7 +182,7 @@ pub fn polystar_of(mark: Mark, count: usize, list: &[f32]) -> Polystar
         x: list[0],
         y: list[1],
         count: count,
-        start: start_of(list[7]),
+        start: start_of(list[7]).sixteenths,
         reversed: mark.is_reversed(),
         outer: outer,
         inner: inner_ring(mark, count, list, outer),
@@ -189,15 +190,16 @@ pub fn polystar_of(mark: Mark, count: usize, list: &[f32]) -> Polystar
 }
 
 // Where point k stands: so many sixteenths of a degree on from the first, or back for direction 3.
-fn turn_at(count: usize, start: usize, reversed: bool, k: usize) -> usize
+#[tactic(auto, using(crate::proofs::Turns::turns))]
+fn turn_at(count: usize, start: usize, reversed: bool, k: usize) -> Turn
     requires { (k < count) × (count ≤ 1024) × (start < 5760) }
-    ensures { (result ≡ spec.turn_from count start reversed k) × (result < 5760) }
+    ensures { result.sixteenths ≡ spec.turn_from count start reversed k }
 {
     let steps = (11520 * k + count) / (2 * count);
     if reversed {
-        (start + 5760 - steps) % 5760
+        Turn::by_sixteenths(start + 5760 - steps)
     } else {
-        (start + steps) % 5760
+        Turn::by_sixteenths(start + steps)
     }
 }
 

@@ -8,4 +8,4 @@ pub mod Pi
 pub mod Entries
 pub mod Nearness
 pub mod Ways
-pub mod Turn
+pub mod WholeTurn

@@ -1,9 +1,9 @@
 // Sines of whole numbers of sixteenths of a degree, times 2^30: the table from 0 to 90 degrees, and the turn from it.
 #![tactic(auto, using(crate::proofs::Ways::ways))]
 
-ghost use Rattle.std.specs.Prelude.{◌≡◌, ◌<◌, ◌≤◌, ◌^◌};
+ghost use Rattle.std.specs.Prelude.{◌≡◌, ◌<◌, ◌≤◌, ◌^◌, ◌%◌};
 ghost use Rattle.sine.specs.Table.{entry};
-ghost use Rattle.sine.specs.Quadrants.{fold_of, size_of, on_of};
+ghost use Rattle.sine.specs.Quadrants.{fold_of, size_of, minus_of, on_of};
 
 // Each is the whole number nearest to 2^30 times the sine of its place, in sixteenths of a degree.
 static SINES: [u32; 1441] = [
@@ -196,41 +196,66 @@ fn entry_at(k: usize) -> u32
     SINES[k]
 }
 
-// The angle from 0 to 90 degrees whose sine has the same size.
-fn folded(turn: usize) -> usize
-    requires { turn < 5760 }
-    ensures value { result ≡ fold_of turn }
-    ensures bound { result < 1441 }
-{
-    if turn < 1440 {
-        turn
-    } else if turn < 2880 {
-        2880 - turn
-    } else if turn < 4320 {
-        turn - 2880
-    } else {
-        5760 - turn
-    }
+// Where an angle points, in sixteenths of a degree from 0 to 5,759: whole turns are left out.
+#[derive(Clone, Copy)]
+pub struct Turn {
+    pub sixteenths: usize,
+    ghost reduced: { sixteenths < 5760 },
 }
 
-// The angle 90 degrees on, whose sine is this angle's cosine.
-pub fn onward(turn: usize) -> usize
-    requires { turn < 5760 }
-    ensures value { result ≡ on_of turn }
-    ensures bound { result < 5760 }
-{
-    if turn < 4320 {
-        turn + 1440
-    } else {
-        turn - 4320
+impl Turn {
+    // The turn by so many sixteenths of a degree.
+    pub fn by_sixteenths(n: usize) -> Turn
+        ensures { result.sixteenths ≡ n % 5760 }
+    {
+        Turn {
+            sixteenths: n % 5760,
+        }
     }
-}
 
-// The size of the sine, times 2^30.
-pub fn size_at(turn: usize) -> u32
-    requires { turn < 5760 }
-    ensures value { result ≡ size_of turn }
-    ensures bound { result ≤ 2 ^ 30 }
-{
-    entry_at(folded(turn))
+    // The turn 90 degrees on, whose sine is this one's cosine.
+    pub fn onward(self) -> Turn
+        ensures { result.sixteenths ≡ on_of self.sixteenths }
+    {
+        Turn {
+            sixteenths: if self.sixteenths < 4320 {
+                self.sixteenths + 1440
+            } else {
+                self.sixteenths - 4320
+            },
+        }
+    }
+
+    // The place in the table of the angle from 0 to 90 degrees whose sine has the same size.
+    fn folded(self) -> usize
+        ensures value { result ≡ fold_of self.sixteenths }
+        ensures bound { result < 1441 }
+    {
+        let turn = self.sixteenths;
+        if turn < 1440 {
+            turn
+        } else if turn < 2880 {
+            2880 - turn
+        } else if turn < 4320 {
+            turn - 2880
+        } else {
+            5760 - turn
+        }
+    }
+
+    // The size of the sine, times 2^30.
+    pub fn size(self) -> u32
+        ensures value { result ≡ size_of self.sixteenths }
+        ensures bound { result ≤ 2 ^ 30 }
+    {
+        entry_at(self.folded())
+    }
+
+    // Whether the sine is below zero.
+    #[tactic(auto, unfolding(crate::specs::Quadrants::minus_of))]
+    pub fn is_minus(self) -> bool
+        ensures { result ≡ minus_of self.sixteenths }
+    {
+        2880 < self.sixteenths
+    }
 }
