@@ -1,4 +1,5 @@
 -- What the proofs of `polystar` cite.
+pub mod Marks
 pub mod Turns
 pub mod Ways
 pub mod Single

@@ -11,7 +11,6 @@ ghost use Rattle.polystar.specs.Marks.{number_of, mark_of};
 ghost use Rattle.polystar.specs.Polystar as spec;
 
 use angle::Direction;
-use command::Refusal;
 use path::BezierVertex;
 use point::Point;
 use sine::Turn;
@@ -77,14 +76,6 @@ impl Mark {
     {
         if self.is_reversed() { -1.0 } else { 1.0 }
     }
-
-    // How many points there are, of so many whole ones: a star has an inner one after each.
-    pub fn point_count(self, whole: usize) -> usize
-        requires { whole ≤ 512 }
-        ensures { result ≡ spec.point_count (number_of self) whole }
-    {
-        if self.is_star() { 2 * whole } else { whole }
-    }
 }
 
 impl From<Mark> for u32 {
@@ -100,31 +91,40 @@ impl From<Mark> for u32 {
     }
 }
 
-impl TryFrom<u32> for Mark {
-    type Error = Refusal;
+// What any number says of a polystar. Those of other marks than 1, 2, 5 and 6 are turned back before one is made.
+impl From<u32> for Mark {
+    ghost from_gives = { λ number mark. mark ≡ mark_of number };
 
-    ghost try_from_gives = { λ number result. result ≡ mark_of number };
-
-    #[tactic(auto, unfolding(crate::specs::Marks::mark_of))]
-    fn try_from(number: u32) -> Result<Mark, Refusal> {
-        match number {
-            1 => Ok(Mark::Star),
-            2 => Ok(Mark::Polygon),
-            5 => Ok(Mark::ReversedStar),
-            6 => Ok(Mark::ReversedPolygon),
-            _ => Err(Refusal::Unlisted),
+    fn from(number: u32) -> Mark {
+        match (number % 4 == 1, number >= 4) {
+            (true, false) => Mark::Star,
+            (false, false) => Mark::Polygon,
+            (true, true) => Mark::ReversedStar,
+            (false, true) => Mark::ReversedPolygon,
         }
     }
 }
 
-// Whether there is no star of so many whole points and these radii, or no polygon, which does not use the inner one.
-pub fn is_degenerate(mark: Mark, whole: usize, outer: f32, inner: f32) -> bool
-    ensures { result ≡ spec.is_degenerate (number_of mark) whole outer inner }
+// How many points there are, of so many whole ones: a star has an inner one after each.
+pub fn point_count(mark: u32, whole: usize) -> usize
+    requires { whole ≤ 512 }
+    ensures { result ≡ spec.point_count mark whole }
 {
-    if mark.is_star() {
-        (whole < 2) | float::is_within(outer, f32::EPSILON) | float::is_within(inner, f32::EPSILON)
+    if Mark::from(mark).is_star() {
+        2 * whole
     } else {
-        (whole < 3) | float::is_within(outer, f32::EPSILON)
+        whole
+    }
+}
+
+// Whether there is no star of so many whole points and these radii, or no polygon, which does not use the inner one.
+pub fn is_degenerate(mark: u32, whole: usize, outer: f32, inner: f32) -> bool
+    ensures { result ≡ spec.is_degenerate mark whole outer inner }
+{
+    if Mark::from(mark).is_star() {
+        whole < 2 || float::is_within(outer, f32::EPSILON) || float::is_within(inner, f32::EPSILON)
+    } else {
+        whole < 3 || float::is_within(outer, f32::EPSILON)
     }
 }
 
@@ -172,8 +172,8 @@ fn inner_ring(mark: Mark, count: usize, list: &[f32], outer: Ring) -> Ring
     }
 }
 
-// The polystar whose eight numbers are the first of a list.
-pub fn polystar_of(mark: Mark, count: usize, list: &[f32]) -> Polystar
+// The polystar of a mark whose eight numbers are the first of a list.
+fn marked(mark: Mark, count: usize, list: &[f32]) -> Polystar
     requires { spec.Drawable count list.now }
     ensures { (result ≡ spec.polystar_of (number_of mark) count list.now) × spec.Sound result }
 {
@@ -187,6 +187,14 @@ pub fn polystar_of(mark: Mark, count: usize, list: &[f32]) -> Polystar
         outer: outer,
         inner: inner_ring(mark, count, list, outer),
     }
+}
+
+// The same of a mark as C knows it.
+pub fn polystar_of(mark: u32, count: usize, list: &[f32]) -> Polystar
+    requires { spec.Drawable count list.now }
+    ensures { (result ≡ spec.polystar_of mark count list.now) × spec.Sound result }
+{
+    marked(Mark::from(mark), count, list)
 }
 
 // Where point k stands: so many sixteenths of a degree on from the first, or back for direction 3.
