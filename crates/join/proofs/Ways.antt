@@ -34,8 +34,8 @@ use Rattle.draw.proofs.Ways.{sound_place, sound_fit, tail}
 use Rattle.draw.proofs.Sources.{DrawnSource, drawn_source, source_few, source_numbers_few}
 use Rattle.need.proofs.Enough.{drawn_needs}
 use Rattle.nest.specs.Lists.{rows_from}
-use Rattle.std.proofs.Common.{drop-cons}
-use Rattle.std.proofs.lemmas.List.{drop_all}
+use Rattle.std.proofs.Common.{drop-cons, Bor}
+use Rattle.std.proofs.lemmas.List.{drop_all, length-map}
 use Rattle.merge.specs.Flat.{is_source_row, sources_from}
 use Rattle.merge.specs.Decision.{said, decision, Settled}
 use Rattle.join.specs.Merge.{followed_by, draw_sources, draw_joined, draw_merge}
@@ -461,7 +461,11 @@ sources_drawn rows items i (suc left) = go (is_source_row (item_row rows i)) (so
     go true e = ap (followed_by (draw_source (item_row rows i) items)) e
     go false e = e ∙ sym (nothing_first (draw_rows (rows_from rows (i + 1) left) items))
 
-module _ (rows : List ℕ) (n : ℕ) (items : List Float) (k : Outcome ℕ) (is : said rows k ≡ decision rows n) where
+-- the rows that `decide` hands on
+abbrev handed : Outcome (Bor (List (List ℕ))) → Outcome (List ItemRow)
+handed k = mapped (λ (before : Bor (List (List ℕ))). map row_of before.now) k
+
+module _ (rows : List ℕ) (n : ℕ) (items : List Float) (k : Outcome (Bor (List (List ℕ)))) (is : said (handed k) ≡ decision rows n) where
   abbrev merged : Outcome (List PathCommand)
   merged = draw_merge rows n items
 
@@ -474,29 +478,33 @@ module _ (rows : List ℕ) (n : ℕ) (items : List Float) (k : Outcome ℕ) (is 
   unfolding draw_merge said
   merge_need_refused r e = rw (← is, e)
 
-  module _ (m : ℕ) (e : k ≡ Ok m) where
-    joined_is : draw_rows (rows_from rows 0 m) items ≡ merged
+  module _ (before : Bor (List (List ℕ))) (e : k ≡ Ok before) (s : Settled rows (handed k)) where
+    abbrev first : List ItemRow
+    first = map row_of before.now
+
+    first_settled : Settled rows (Ok first)
+    first_settled = rw e at s
+
+    pub merge_few : length before.now ≤ 256
+    merge_few = rw (← length-map before.now row_of) first_settled.0
+
+    joined_is : draw_rows first items ≡ merged
     unfolding draw_merge draw_joined said
-    joined_is = rw (← is, e) (sym (sources_drawn rows items 0 m))
+    joined_is =
+        let f : first ≡ rows_from rows 0 (length first) = first_settled.2 in
+        rw (← is, e)
+        (ap (λ (rs : List ItemRow). draw_rows rs items) f
+        ∙ sym (sources_drawn rows items 0 (length first))
+        ∙ ap (λ (rs : List ItemRow). draw_sources (map (item_row rows) (sources_from 0 rs)) items) (sym f))
 
-    joined_settled : Settled rows k → (m ≤ 256) × (6 * m ≤ length rows)
-    joined_settled s = rw e at s
-
-    pub merge_few : Settled rows k → m ≤ 256
-    merge_few s = (joined_settled s).0
-
-    pub merge_inside : Settled rows k → 6 * m ≤ length rows
-    merge_inside s = (joined_settled s).1
-
-    pub merge_joined : (first : List ItemRow) → first ≡ rows_from rows 0 m → (codes codes' : List ℕ) (numbers numbers' : List Float) (r : Outcome Size)
+    pub merge_joined : (codes codes' : List ℕ) (numbers numbers' : List Float) (r : Outcome Size)
         → FilledBoth (fitted (in_buffers (length codes) (length numbers)) (draw_rows first items)) (number_of r) (codes_told r) (numbers_told r) codes codes' numbers numbers'
         → FilledBoth (fitted (in_buffers (length codes) (length numbers)) merged) (number_of r) (codes_told r) (numbers_told r) codes codes' numbers numbers'
-    merge_joined first first_is codes codes' numbers numbers' r f = rw (← joined_is, ← first_is) f
+    merge_joined codes codes' numbers numbers' r f = rw (← joined_is) f
 
-    pub merge_need_joined : (first : List ItemRow) → first ≡ rows_from rows 0 m → (r : Outcome Size) → mapped pair_of r ≡ need_of (draw_rows first items)
-        → mapped pair_of r ≡ need_of merged
-    merge_need_joined first first_is r f = f ∙ ap (λ (rs : List ItemRow). need_of (draw_rows rs items)) first_is ∙ ap need_of joined_is
+    pub merge_need_joined : (r : Outcome Size) → mapped pair_of r ≡ need_of (draw_rows first items) → mapped pair_of r ≡ need_of merged
+    merge_need_joined r f = f ∙ ap need_of joined_is
 
-pub ruleset merges = (merge_refused, merge_few, merge_inside, merge_joined)
+pub ruleset merges = (merge_refused, merge_few, merge_joined)
 
-pub ruleset merge_needs = (merge_need_refused, merge_few, merge_inside, merge_need_joined)
+pub ruleset merge_needs = (merge_need_refused, merge_few, merge_need_joined)

@@ -132,8 +132,8 @@ pub fn draw_merge(
         (number_of result) (codes_told result) (numbers_told result)
         codes.old codes.new numbers.old numbers.new }
 {
-    let m = merge::decide(rows, n)?;
-    join_rows(nest::rows_before(rows, m), items, codes, numbers)
+    let before = merge::decide(rows, n)?;
+    join_rows(before, items, codes, numbers)
 }
 
 // What the merge of the first n rows needs, or why it is refused.
@@ -141,6 +141,6 @@ pub fn draw_merge(
 pub fn merge_need(rows: &[u32], n: usize, items: &[f32]) -> Outcome<Size>
     ensures { mapped pair_of result ≡ need_of (draw_merge rows.now n items.now) }
 {
-    let m = merge::decide(rows, n)?;
-    rows_need(nest::rows_before(rows, m), items)
+    let before = merge::decide(rows, n)?;
+    rows_need(before, items)
 }

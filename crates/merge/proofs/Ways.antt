@@ -15,39 +15,42 @@ use Rattle.command.specs.Outcomes.{Outcome}
 use Rattle.item.specs.declared.ItemRow.{ItemRow}
 use Rattle.item.specs.Rows.{is_listed}
 use Rattle.nest.specs.Lists.{rows_from, is_shallow, is_nested}
-use Rattle.merge.specs.Flat.{sources_from, scan_from, late_from, chosen, merge_row}
+use Rattle.merge.specs.Flat.{sources_from, scan_from, late_from, chosen, rows_before}
 use Rattle.merge.specs.Decision.{ruling, decision, said, Settled}
 use Rattle.merge.proofs.Flat.{settled, flat_ruling, ruling_flat, scan_inside, length_rows, take_rows}
 
--- ---- the merge row of the first n rows is what the rule says, and it is one of them
+-- ---- what the rule gives of the first n rows is what it says, and they are the first
+row_said : (s : Option (ℕ × ℕ)) (rs : List ItemRow) → said (chosen s rs) ≡ settled s rs
+unfolding said chosen settled
+row_said None rs = refl
+row_said (Some (m, c)) rs = go (leb 2 c && late_from true (drop (m + 1) rs))
+  where
+    go : (b : Bool) → said (cond b (Ok (take m rs)) (Err NotMergeable)) ≡ cond b (Ok (sources_from 0 (take m rs))) (Err NotMergeable)
+    go true = refl
+    go false = refl
+
 module _ (rows : List ℕ) (n : ℕ) where
-  inside : (m c : ℕ) → scan_from 0 0 (rows_from rows 0 n) ≡ Some (m, c) → m < n
-  inside m c e = omega (arith, scan_inside (rows_from rows 0 n) m c e, length_rows rows 0 n)
+  rule_said : said (rows_before (rows_from rows 0 n)) ≡ ruling rows n
+  unfolding rows_before flat_ruling
+  rule_said = row_said (scan_from 0 0 (rows_from rows 0 n)) (rows_from rows 0 n) ∙ sym (ruling_flat rows n)
 
-  row_said : (s : Option (ℕ × ℕ)) → scan_from 0 0 (rows_from rows 0 n) ≡ s → said rows (chosen s (rows_from rows 0 n)) ≡ settled s (rows_from rows 0 n)
-  unfolding said chosen settled
-  row_said None e = refl
-  row_said (Some (m, c)) e = go (leb 2 c && late_from true (drop (m + 1) (rows_from rows 0 n)))
-    where
-      go : (b : Bool) → said rows (cond b (Ok m) (Err NotMergeable)) ≡ cond b (Ok (sources_from 0 (take m (rows_from rows 0 n)))) (Err NotMergeable)
-      go true = let h : m < n = inside m c e in ap (λ (rs : List ItemRow). Ok (sources_from 0 rs)) (sym (take_rows rows m 0 n (omega arith)))
-      go false = refl
-
-  rule_said : said rows (merge_row (rows_from rows 0 n)) ≡ ruling rows n
-  unfolding merge_row flat_ruling
-  rule_said = row_said (scan_from 0 0 (rows_from rows 0 n)) refl ∙ sym (ruling_flat rows n)
+  first_settled : n ≤ 256 → 6 * n ≤ length rows → (m : ℕ) → m < n → Settled rows (Ok (take m (rows_from rows 0 n)))
+  first_settled few long m h =
+      let t : take m (rows_from rows 0 n) ≡ rows_from rows 0 m = take_rows rows m 0 n (omega arith) in
+      let l : length (take m (rows_from rows 0 n)) ≡ m = ap length t ∙ length_rows rows 0 m in
+      (omega arith, omega arith, t ∙ ap (rows_from rows 0) (sym l))
 
   row_settled : n ≤ 256 → 6 * n ≤ length rows → (s : Option (ℕ × ℕ)) → scan_from 0 0 (rows_from rows 0 n) ≡ s → Settled rows (chosen s (rows_from rows 0 n))
   unfolding chosen
   row_settled few long None e = tt
   row_settled few long (Some (m, c)) e = go (leb 2 c && late_from true (drop (m + 1) (rows_from rows 0 n)))
     where
-      go : (b : Bool) → Settled rows (cond b (Ok m) (Err NotMergeable))
-      go true = let h : m < n = inside m c e in (omega arith, omega arith)
+      go : (b : Bool) → Settled rows (cond b (Ok (take m (rows_from rows 0 n))) (Err NotMergeable))
+      go true = first_settled few long m (omega (arith, scan_inside (rows_from rows 0 n) m c e, length_rows rows 0 n))
       go false = tt
 
-  rule_settled : n ≤ 256 → 6 * n ≤ length rows → Settled rows (merge_row (rows_from rows 0 n))
-  unfolding merge_row
+  rule_settled : n ≤ 256 → 6 * n ≤ length rows → Settled rows (rows_before (rows_from rows 0 n))
+  unfolding rows_before
   rule_settled few long = row_settled few long (scan_from 0 0 (rows_from rows 0 n)) refl
 
 -- ---- rows that keep the rules before the merge rule
@@ -57,8 +60,8 @@ module _ (rows : List ℕ) (n : ℕ) (some : n ≡ 0 → ⊥) (few : n ≤ 256) 
   rows_pass a b d =
       rw (ne_eqb n 0 some, le-ltb 256 n few, le-ltb (length rows) (6 * n) long, ← first_is, a, b, d)
 
-  pub decided : list_all is_shallow first ≡ true → list_all is_listed first ≡ true → is_nested 0 first ≡ true → (answer : Outcome ℕ) → answer ≡ merge_row first
-      → (said rows answer ≡ decision rows n) × Settled rows answer
+  pub decided : list_all is_shallow first ≡ true → list_all is_listed first ≡ true → is_nested 0 first ≡ true → (answer : Outcome (List ItemRow)) → answer ≡ rows_before first
+      → (said answer ≡ decision rows n) × Settled rows answer
   decided a b d answer answer_is =
-      let e : answer ≡ merge_row (rows_from rows 0 n) = answer_is ∙ ap merge_row first_is in
-      (ap (said rows) e ∙ rule_said rows n ∙ rows_pass a b d, rw e (rule_settled rows n few long))
+      let e : answer ≡ rows_before (rows_from rows 0 n) = answer_is ∙ ap rows_before first_is in
+      (ap said e ∙ rule_said rows n ∙ rows_pass a b d, rw e (rule_settled rows n few long))

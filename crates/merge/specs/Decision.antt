@@ -1,8 +1,9 @@
 -- What a merge comes to on its rows: a refusal, or which rows are joined. Definitions only.
-use Rattle.std.specs.Prelude.{ℕ, ◌*◌, ◌≤◌, not, List, [], ◌∷◌, ltb, eqb, length, Ok, Err}
+use Rattle.std.specs.Prelude.{ℕ, ◌*◌, ◌≡◌, ◌≤◌, not, List, [], ◌∷◌, ltb, eqb, length, Ok, Err}
 use Rattle.std.specs.List.{list_all}
 use Rattle.command.specs.declared.Refusal.TheVariants.{Empty, TooMany, Unlisted, BrokenNesting, NotMergeable, OutOfBounds}
 use Rattle.command.specs.Outcomes.{Outcome, mapped, Check, ◌gives◌, checked}
+use Rattle.item.specs.declared.ItemRow.{ItemRow}
 use Rattle.item.specs.Rows.{is_listed}
 use Rattle.nest.specs.Lists.{rows_from, is_shallow, is_nested}
 use Rattle.nest.specs.Items.{items_of}
@@ -33,12 +34,12 @@ unfoldable pub decision : List ℕ → ℕ → Outcome (List ℕ)
 unfolding row_checks ruling
 decision rows n = checked (row_checks rows n) (ruling rows n)
 
--- what an answer of `decide` says: its refusal, or the sources before its merge row
-unfoldable pub said : List ℕ → Outcome ℕ → Outcome (List ℕ)
-unfolding rows_from sources_from
-said rows answer = mapped (λ (m : ℕ). sources_from 0 (rows_from rows 0 m)) answer
+-- what an answer of `decide`, the rows before the merge row, says: its refusal, or the sources among these rows
+unfoldable pub said : Outcome (List ItemRow) → Outcome (List ℕ)
+unfolding sources_from
+said answer = mapped (λ (before : List ItemRow). sources_from 0 before) answer
 
--- what a decision leaves to the joining
-abbrev pub Settled : List ℕ → Outcome ℕ → Type 0
+-- what a decision leaves to the joining: so many of the list's first rows
+abbrev pub Settled : List ℕ → Outcome (List ItemRow) → Type 0
 Settled rows (Err r) = Unit {0}
-Settled rows (Ok m) = (m ≤ 256) × (6 * m ≤ length rows)
+Settled rows (Ok before) = (length before ≤ 256) × (6 * length before ≤ length rows) × (before ≡ rows_from rows 0 (length before))

@@ -1,5 +1,5 @@
 -- The merge rule on flat rows: what the code works out. proofs/Flat.antt shows that it is the rule on nested items. Definitions only.
-use Rattle.std.specs.Prelude.{ℕ, ◌+◌, Bool, true, cond, not, ◌&&◌, ◌||◌, List, [], ◌∷◌, eqb, leb, drop, Option, None, Some, Ok, Err}
+use Rattle.std.specs.Prelude.{ℕ, ◌+◌, Bool, true, cond, not, ◌&&◌, ◌||◌, List, [], ◌∷◌, eqb, leb, take, drop, Option, None, Some, Ok, Err}
 use Rattle.command.specs.declared.Refusal.TheVariants.{NotMergeable}
 use Rattle.command.specs.Outcomes.{Outcome}
 use Rattle.item.specs.declared.ItemRow.{ItemRow}
@@ -48,13 +48,13 @@ unfoldable pub late_from : Bool → List ItemRow → Bool
 late_from clean [] = true
 late_from clean (r ∷ rs) = follows clean r && late_from (clean_after clean r) rs
 
--- what a scan of rows comes to: the merge row, where two sources or more stand before it, and after it only what may follow
-unfoldable pub chosen : Option (ℕ × ℕ) → List ItemRow → Outcome ℕ
+-- what a scan of rows comes to: the rows before the merge row, where two sources or more are among them, and after it only what may follow
+unfoldable pub chosen : Option (ℕ × ℕ) → List ItemRow → Outcome (List ItemRow)
 unfolding late_from
 chosen None rs = Err NotMergeable
-chosen (Some (m, c)) rs = cond (leb 2 c && late_from true (drop (m + 1) rs)) (Ok m) (Err NotMergeable)
+chosen (Some (m, c)) rs = cond (leb 2 c && late_from true (drop (m + 1) rs)) (Ok (take m rs)) (Err NotMergeable)
 
--- the merge row of the rows
-unfoldable pub merge_row : List ItemRow → Outcome ℕ
+-- the rows before the merge row
+unfoldable pub rows_before : List ItemRow → Outcome (List ItemRow)
 unfolding scan_from chosen
-merge_row rs = chosen (scan_from 0 0 rs) rs
+rows_before rs = chosen (scan_from 0 0 rs) rs

@@ -3,8 +3,9 @@
 
 ghost use Rattle.std.specs.Prelude.{◌≡◌, ◌<◌, IfSome, length, map, true};
 ghost use Rattle.item.specs.Rows.{row_of};
-ghost use Rattle.merge.specs.Flat.{is_top, is_union_row, is_source_row, precedes, follows, clean_after, scan_from, late_from, merge_row};
+ghost use Rattle.merge.specs.Flat.{is_top, is_union_row, is_source_row, precedes, follows, clean_after, scan_from, late_from, rows_before};
 ghost use Rattle.merge.specs.Decision.{decision, said, Settled};
+ghost use Rattle.command.specs.Outcomes.{mapped};
 
 use command::{Outcome, Refusal};
 use item::{ItemRow, Kind};
@@ -103,21 +104,22 @@ fn all_follow(rows: &[[u32; 6]]) -> bool
     true
 }
 
-// The merge row, by the merge rule on rows that keep the rules before it: `build_supported_merge_path` of drawing_paths.rs, up to the drawing.
-#[tactic(auto, unfolding(crate::specs::Flat::merge_row, crate::specs::Flat::chosen))]
-fn rule(rows: &[[u32; 6]]) -> Outcome<usize>
-    ensures { result ≡ merge_row (map row_of rows.now) }
+// The rows before the merge row, by the merge rule on rows that keep the rules before it: `build_supported_merge_path` of drawing_paths.rs, up to the drawing.
+#[tactic(auto, unfolding(crate::specs::Flat::rows_before, crate::specs::Flat::chosen))]
+fn rule(rows: &[[u32; 6]]) -> Outcome<&[[u32; 6]]>
+    ensures { mapped (λ before. map row_of before.now) result ≡ rows_before (map row_of rows.now) }
 {
     match find_merge(rows) {
-        Some((m, count)) if count >= 2 && all_follow(&rows[m + 1..]) => Ok(m),
+        Some((m, count)) if count >= 2 && all_follow(&rows[m + 1..]) => Ok(&rows[..m]),
         _ => Err(Refusal::NotMergeable),
     }
 }
 
-// What a merge of the first n rows comes to on the rows alone: a refusal, or the merge row, the sources before which are joined.
+// What a merge of the first n rows comes to on the rows alone: a refusal, or the rows before the merge row, the sources among which are joined.
 #[tactic(auto, unfolding(crate::specs::Decision::said, crate::specs::Decision::decision))]
-pub fn decide(rows: &[u32], n: usize) -> Outcome<usize>
-    ensures { (said rows.now result ≡ decision rows.now n) × Settled rows.now result }
+pub fn decide(rows: &[u32], n: usize) -> Outcome<&[[u32; 6]]>
+    ensures sources { said (mapped (λ before. map row_of before.now) result) ≡ decision rows.now n }
+    ensures first { Settled rows.now (mapped (λ before. map row_of before.now) result) }
 {
     if n == 0 {
         return Err(Refusal::Empty);

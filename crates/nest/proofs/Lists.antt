@@ -1,6 +1,6 @@
 -- What a rule for all rows of a list says of the first row and of the rest. Assumes nothing.
 use mathlib.Core.Path.{◌≡◌}
-use mathlib.Core.Bool.{Bool, true, and-eq-true_iff}
+use mathlib.Core.Bool.{true, and-eq-true_iff}
 use mathlib.Core.List.{List, ◌∷◌}
 use Prim.Native.Nat.{ℕ, ◌≤◌}
 use lib.Dec.{leb}

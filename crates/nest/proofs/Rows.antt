@@ -1,38 +1,16 @@
--- A step along lent rows, and which entries they read. Assumes nothing.
+-- Which entries lent rows read, and rows cut from a list. Assumes nothing.
 use mathlib.Core.Path.{◌≡◌, refl, ap, ap₂, ◌∙◌}
-use mathlib.Core.List.{List, [], ◌∷◌}
+use mathlib.Core.List.{List, ◌∷◌}
 use Rattle.std.proofs.Common.{map, drop-drop}
 use Rattle.std.specs.List.{slice_range}
 use Rattle.std.proofs.lemmas.List.{get_or-take, get_or-drop}
-use Prim.Native.Nat.{ℕ, zero, suc, ◌+◌, ◌-◌, ◌*◌, ◌<◌, ◌≤◌}
+use Prim.Native.Nat.{ℕ, zero, suc, ◌+◌, ◌*◌, ◌<◌, ◌≤◌}
 use native.Mathlib.Nat.{sub-zero}
-use native.Mathlib.Numerals.{sub-one}
 use native.Mathlib.Omega.{arith}
 use lib.ListN.{get_or, take, drop, length}
 use Rattle.std.specs.Simd.{first_chunks}
 use Rattle.item.specs.Rows.{item_row, row_of}
 use Rattle.nest.specs.Lists.{rows_from}
-
-pub rows_none : (rows : List ℕ) (i : ℕ) → rows_from rows i 0 ≡ []
-unfolding rows_from
-rows_none rows i = refl
-
-pub rows_step : (rows : List ℕ) (i left : ℕ) → 0 < left → rows_from rows i left ≡ item_row rows i ∷ rows_from rows (i + 1) (left - 1)
-unfolding rows_from
-rows_step rows i zero h = absurd (omega arith)
-rows_step rows i (suc k) h = rw sub-one
-
--- of n rows, those from row i on
-pub rest_all : (rows : List ℕ) (n : ℕ) → rows_from rows 0 (n - 0) ≡ rows_from rows 0 n
-rest_all rows n = ap (rows_from rows 0) (sub-zero n)
-
-pub rest_none : (rows : List ℕ) (i n : ℕ) → n ≤ i → rows_from rows i (n - i) ≡ []
-rest_none rows i n h = let e : n - i ≡ 0 = omega arith in rw e (rows_none rows i)
-
-pub rest_step : (rows : List ℕ) (i n : ℕ) → i < n → rows_from rows i (n - i) ≡ item_row rows i ∷ rows_from rows (i + 1) (n - (i + 1))
-rest_step rows i n h =
-    let e : n - i - 1 ≡ n - (i + 1) = omega arith in
-    rows_step rows i (n - i) (omega arith) ∙ ap (λ (k : ℕ). item_row rows i ∷ rows_from rows (i + 1) k) e
 
 -- ---- entries past the row number are not read
 
@@ -81,10 +59,7 @@ length_chunks : {X : Type 0} (size k : ℕ) (xs : List X) → length (first_chun
 length_chunks size zero xs = refl
 length_chunks size (suc k) xs = ap suc (length_chunks size k (drop size xs))
 
-pub rows_taken : (rows : List ℕ) (n k : ℕ) (cut : List (List ℕ)) → cut ≡ first_chunks 6 k rows → n ≤ length cut → map row_of (take n cut) ≡ rows_from rows 0 n
-rows_taken rows n k cut is h =
-    let e : length cut ≡ k = ap length is ∙ length_chunks 6 k rows in
-    ap (λ (l : List (List ℕ)). map row_of (take n l)) is ∙ ap (map row_of) (take_chunks 6 n k rows (omega arith)) ∙ rows_cut rows n
-
-pub rows_first : (rows : List ℕ) (n k : ℕ) (cut : List (List ℕ)) → cut ≡ first_chunks 6 k rows → n ≤ length cut → map row_of (slice_range cut 0 n) ≡ rows_from rows 0 n
-rows_first rows n k cut is h = ap (λ (m : ℕ). map row_of (take m cut)) (sub-zero n) ∙ rows_taken rows n k cut is h
+pub rows_first : (rows : List ℕ) (n k : ℕ) → n ≤ length (first_chunks 6 k rows) → map row_of (slice_range (first_chunks 6 k rows) 0 n) ≡ rows_from rows 0 n
+rows_first rows n k h =
+    let e : length (first_chunks 6 k rows) ≡ k = length_chunks 6 k rows in
+    ap (λ (m : ℕ). map row_of (take m (first_chunks 6 k rows))) (sub-zero n) ∙ ap (map row_of) (take_chunks 6 n k rows (omega arith)) ∙ rows_cut rows n

@@ -18,16 +18,6 @@ pub fn first_rows(entries: &[u32], n: usize) -> Option<&[[u32; 6]]>
     rows.get(..n)
 }
 
-// The first m rows of a list that has so many.
-pub fn rows_before(entries: &[u32], m: usize) -> &[[u32; 6]]
-    requires { 6 * m ≤ length entries.now }
-    ensures value { map row_of result.now ≡ rows_from entries.now 0 m }
-    ensures count { length result.now ≡ m }
-{
-    let (rows, _) = entries.as_chunks::<6>();
-    &rows[..m]
-}
-
 // Whether no row is more than 8 deep.
 pub fn each_shallow(rows: &[[u32; 6]]) -> bool
     ensures { result ≡ list_all is_shallow (map row_of rows.now) }
