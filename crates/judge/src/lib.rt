@@ -7,6 +7,7 @@ ghost use Rattle.judge.specs.Lists.{judge_list, without_commands, place_of, judg
 use command::{Outcome, Refusal};
 
 // The first fault of a command list.
+// Codes and numbers are two parameters, as C lends them: as one value each contract says `list.entry.codes.now list.entry.numbers.now`, no plainer.
 #[tactic(auto, using(crate::proofs::Ways::judging))]
 pub fn judge(codes: &[u8], numbers: &[f32]) -> Outcome<()>
     ensures { result ≡ without_commands (judge_list codes.now numbers.now) }

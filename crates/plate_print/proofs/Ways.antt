@@ -1,15 +1,13 @@
 -- What each way out of a function of this crate owes, as the code meets it: a premise for each test and for each call's result.
 -- Assumes nothing.
 use mathlib.Core.Path.{◌≡◌, refl, sym, ap, ◌∙◌, subst}
-use mathlib.Core.Bool.{true, true≢false}
 use mathlib.Core.List.{List, [], ◌∷◌, ◌++◌, map, append-nil}
 use Prim.Native.Nat.{ℕ, zero, suc, ◌+◌, ◌-◌, ◌*◌, ◌/◌, ◌≤◌, ◌<◌}
 use native.Mathlib.Numerals.{add-one}
 use native.Mathlib.Omega.{arith}
-use lib.Ieee.{Float, binary32, nan, inf, fin, is_nan, to_bits}
+use lib.Ieee.{Float, binary32, nan, to_bits}
 use lib.ListN.{length, set, get_or, take, drop, length-set, length-append, length-drop, length-map, drop_of_length-le}
 use lib.Seq.{sets, drop-cons, set_comm, length-sets, length-take-le}
-use Rattle.ieee.proofs.Pattern.{is_number}
 use Rattle.command.specs.declared.Refusal.{Refusal}
 use Rattle.command.specs.Buffers.{onto}
 use Rattle.command.specs.Refusals.{refusal_number}
@@ -22,15 +20,6 @@ use Rattle.plate_print.specs.Appended.{Appended, HasRoom}
 use Rattle.plate_print.specs.Lines.{digit_of, leading_digit, leading, column, columns, line, numbers_line, refusal_text, list_lines, list_text}
 use Rattle.plate_print.proofs.Columns.{leading_length, column_length}
 use Rattle.plate_print.proofs.Lines.{columns_length, line_length, numbers_line_length, list_most, list_text_length}
-
--- ---- bits
-pub nan_bits : (x : Float) → is_nan x ≡ true → 0x7fc0_0000 ≡ to_bits binary32 x
-unfolding is_nan to_bits
-nan_bits nan e = refl
-nan_bits (inf s) e = absurd (true≢false (sym e))
-nan_bits (fin s m k) e = absurd (true≢false (sym e))
-
-pub ruleset digits = (nan_bits, is_number)
 
 -- ---- put_leading
 -- a store past a run of stores may come before it

@@ -11,13 +11,7 @@ ghost use Rattle.plate_print.specs.Appended.{Appended, HasRoom};
 ghost use Rattle.plate_print.specs.Lines.{digit_of, leading_digit, leading, column, columns, line, numbers_line, refusal_text, list_lines, list_text};
 
 use command::Refusal;
-
-// The bits of a float, the same for every NaN.
-fn bits(x: f32) -> u32
-    ensures { result ≡ to_bits binary32 x }
-{
-    if x.is_nan() { 0x7fc0_0000 } else { x.to_bits() }
-}
+use std::num::f32_to_bits_with_nan;
 
 // The last digit of a number.
 #[tactic(auto, unfolding(crate::specs::Lines::digit_of))]
@@ -75,7 +69,7 @@ impl Text<'_> {
         ensures { Appended self.old self.new (columns (map (to_bits binary32) numbers.now)) }
     {
         for number in numbers {
-            self.put_column(11, bits(*number));
+            self.put_column(11, f32_to_bits_with_nan(*number));
         }
     }
 
@@ -144,6 +138,6 @@ pub fn print_answer(codes: &[u8], numbers: &[f32], total: f32, out: &mut [u8]) -
 {
     let mut text = Text { out, at: 0 };
     text.put_commands(codes, numbers);
-    text.put_line(9, bits(total));
+    text.put_line(9, f32_to_bits_with_nan(total));
     text.at
 }

@@ -1,25 +1,22 @@
 -- What each way out of the functions on a field owes, as the code meets it: a premise for each test and for each call's result.
 -- Assumes nothing.
 use mathlib.Core.Path.{◌≡◌, refl, sym, ap, ◌∙◌}
-use mathlib.Core.Bool.{Bool, true, false, not, cond, ◌&&◌, true≢false, and-eq-true_iff}
+use mathlib.Core.Bool.{Bool, true, false, not, cond, ◌&&◌, and-eq-true_iff}
 use mathlib.Core.List.{List, [], ◌∷◌}
-use Prim.Native.Nat.{ℕ, zero, suc, ◌+◌, ◌-◌, ◌*◌, ◌%◌, ◌^◌, ◌≤◌, ◌<◌}
+use Prim.Native.Nat.{ℕ, zero, suc, ◌+◌, ◌-◌, ◌*◌, ◌≤◌, ◌<◌}
 use native.Mathlib.Nat.{le_refl}
 use native.Mathlib.Numerals.{add-one}
 use native.Mathlib.Omega.{arith}
 use lib.Dec.{eqb, leb, ltb}
-use lib.Ieee.{Float, nan, inf, fin, is_nan, of_bits, binary32}
-use lib.Ieee.Bits.{nan_bits_is, nan_bits_above}
 use lib.ListN.{length, get_or, take, drop, length-drop, drop_of_length-le}
 use lib.Seq.{drop-cons, take_all}
-use borrow.Author.Tests.{eq-eqb, lt-ltb, le-leb, lt-leb, leb-true, ltb-false}
+use borrow.Author.Tests.{eq-eqb, le-leb, lt-leb, leb-true, ltb-false}
 use Rattle.std.specs.Prelude.{◌==◌, Option, Some, None}
 use Rattle.std.specs.Char.{is_ascii_digit}
 use Rattle.std.specs.List.{position}
 use Rattle.std.specs.List.{position_or_len}
 use Rattle.std.proofs.lemmas.List.Quantifiers.{position-Some}
 use Rattle.std.proofs.lemmas.List.Sums.{fails_before_first}
-use Rattle.ieee.specs.Pattern.{infinity}
 use Rattle.plate_read.specs.Text.{is_digit, all_digits, is_numeral, value_after, unblanked, largest_pattern, field_value, is_field}
 use Rattle.plate_read.specs.Fields.{pattern_after, field_pattern}
 
@@ -233,13 +230,3 @@ field_bad field h = go (is_field field) h
     go : (a : Bool) → None ≡ cond a (Some (field_value field)) None → a ≡ false
     go true h = cc
     go false h = refl
-
--- ---- number
-nan_pattern : (x : Float) → is_nan x ≡ true → nan ≡ x
-unfolding is_nan
-nan_pattern nan e = refl
-nan_pattern (inf s) e = absurd (true≢false (sym e))
-nan_pattern (fin s m k) e = absurd (true≢false (sym e))
-
-pub number_nan : (b : ℕ) → infinity < b % 2 ^ 31 → nan ≡ of_bits binary32 b
-number_nan b h = nan_pattern (of_bits binary32 b) (sym (nan_bits_is binary32 b) ∙ nan_bits_above binary32 b ∙ lt-ltb infinity (b % 2 ^ 31) h)

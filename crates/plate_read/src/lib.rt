@@ -2,13 +2,12 @@
 #![tactic(auto)]
 
 ghost use Rattle.std.specs.Prelude.{◌≡◌, ◌==◌, not, map, position, IfOk};
-ghost use Rattle.std.specs.Float.Ieee.{of_bits};
-ghost use Rattle.std.specs.Float.{binary32};
 ghost use Rattle.command.specs.Buffers.{onto};
 ghost use Rattle.plate_read.specs.Text.{most_vertices, read_lines, read_text, reading_of, numbers_given};
 ghost use Rattle.plate_read.specs.Fields.{pattern_after, field_pattern, line_patterns};
 
 use command::Refusal;
+use std::num::f32_from_bits_with_nan;
 
 // What a text in form gives: the closed flag, and how many vertices there are.
 #[derive(Clone, Copy)]
@@ -64,17 +63,6 @@ fn line_values<const N: usize>(text: &[u8]) -> Option<[u32; N]>
     }
 }
 
-// The number with a bit pattern. A NaN has many patterns, of which `from_bits` promises nothing.
-fn number(pattern: u32) -> f32
-    ensures { result ≡ of_bits binary32 pattern }
-{
-    if pattern % 0x8000_0000 <= 0x7f80_0000 {
-        f32::from_bits(pattern)
-    } else {
-        f32::NAN
-    }
-}
-
 // Reads the vertex lines, and writes six numbers for each of them from the start of a list.
 // After a refusal the list may hold the numbers of the lines before.
 fn read_lines(lines: &[u8], closed: u32, numbers: &mut [f32; 1536]) -> Result<Reading, Refusal>
@@ -87,7 +75,8 @@ fn read_lines(lines: &[u8], closed: u32, numbers: &mut [f32; 1536]) -> Result<Re
             return Err(Refusal::TooMany);
         }
         let patterns = line_values::<6>(line).ok_or(Refusal::Unlisted)?;
-        numbers[6 * count..6 * count + 6].copy_from_slice(&patterns.map(number));
+        let vertex = patterns.map(|pattern| f32_from_bits_with_nan(pattern));
+        numbers[6 * count..6 * count + 6].copy_from_slice(&vertex);
         count += 1;
     }
     Ok(Reading { closed, count })

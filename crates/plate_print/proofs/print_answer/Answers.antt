@@ -8,9 +8,9 @@ pub put_line-requires : goal.put_line-requires
 put_line-requires c = append_room _ _ _ c.put_commands.ensures 14 (69 * length c.args.codes.now) (list_most c.args.codes.now c.args.numbers.now) (omega arith)
 
 pub returns-clause-value : goal.returns-clause-value
-returns-clause-value c = answer_length _ _ _ refl _ _ _ _ c.bits.ensures c.requires.codes_in_bounds_2 c.put_commands.ensures c.put_line.ensures
+returns-clause-value c = answer_length _ _ _ refl _ _ _ _ c.f32_to_bits_with_nan.ensures c.requires.codes_in_bounds_2 c.put_commands.ensures c.put_line.ensures
 
 pub returns-clause-out_after : goal.returns-clause-out_after
 returns-clause-out_after c =
     let buffer = sym (c.put_line.ensures.buffer ∙ c.put_commands.ensures.buffer) in
-    answer_printed _ _ _ refl _ _ _ _ c.bits.ensures c.requires.codes_in_bounds_2 c.put_commands.ensures c.put_line.ensures _ (search (rules, buffer))
+    answer_printed _ _ _ refl _ _ _ _ c.f32_to_bits_with_nan.ensures c.requires.codes_in_bounds_2 c.put_commands.ensures c.put_line.ensures _ (search (rules, buffer))

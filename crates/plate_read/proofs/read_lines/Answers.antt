@@ -41,7 +41,7 @@ loop-line-preserved c =
     let six : length c.in_ok-patterns.patterns ≡ 6 = search rules in
     let long : length c.args.numbers.now ≡ 1536 = search rules in
     let k : 6 * c.loop-line.count + 6 - 6 * c.loop-line.count ≡ 6 = omega arith in
-    let m = mapped_is _ _ _ _ 6 (λ p q x y k. search rules) c.map.ensures.items six in
+    let m = mapped_is _ _ _ _ 6 (λ p q x y k. search rules) c.map-vertex.ensures.items six in
     let s = size' ∙ c.loop-line.invariant.2 in (
       omega arith,
       tt,
