@@ -68,7 +68,7 @@ fn write_row(
                 codes: i,
                 numbers: j,
             },
-            Ok((place, shape)) => shape::write_at(shape, &items[place..], codes, i, numbers, j),
+            Ok(drawing) => drawing.write(codes, i, numbers, j),
         }
     } else {
         Size {
@@ -99,7 +99,13 @@ fn write_rows(rows: &[u32], m: usize, items: &[f32], codes: &mut [u8], numbers: 
 
 // Draws the sources among the first m rows into two buffers, if they fit.
 #[tactic(auto, using(crate::proofs::Ways::joins))]
-fn join_rows(rows: &[u32], m: usize, items: &[f32], codes: &mut [u8], numbers: &mut [f32]) -> Outcome<Size>
+fn join_rows(
+    rows: &[u32],
+    m: usize,
+    items: &[f32],
+    codes: &mut [u8],
+    numbers: &mut [f32],
+) -> Outcome<Size>
     requires { (m ≤ 256) × (6 * m ≤ length rows.now) }
     ensures { FilledBoth
         (fitted (in_buffers (length codes.old) (length numbers.old)) (draw_rows (rows_from rows.now 0 m) items.now))

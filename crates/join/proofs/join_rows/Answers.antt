@@ -10,10 +10,10 @@ returns-in_err-need c =
 
 pub returns-then-need-codes : goal.returns-then-need-codes
 returns-then-need-codes c = elim c.then-need-codes.branch [
-    goal.then-need-codes-via-then-need-codes w ↦ need_codes_short _ _ _ _ c.rows_need.ensures _ c.in_ok-need.was w.if-need-codes.true
+  | goal.then-need-codes-via-then-need-codes w ↦ need_codes_short _ _ _ _ c.rows_need.ensures _ c.in_ok-need.was w.if-need-codes.true
   | goal.then-need-codes-via-else-need-codes+then-need-numbers w ↦
       need_numbers_short _ _ _ _ c.rows_need.ensures _ c.in_ok-need.was w.if-need-codes.false w.if-need-numbers.true
-  ]
+]
 
 pub returns : goal.returns
 returns c =
