@@ -33,8 +33,10 @@ pub struct Drawing<'a> {
     ghost fits: { Fit shape list.now } by { fit_prop shape list.now },
 }
 
-// What a path needs: each of its segments may be a line or a cubic, so all are looked at.
+// What a path needs: each of its segments may be a line or a cubic, so all are looked at. This is a call of its own, so that
+// `need`, which stays small, can be inlined.
 #[tactic(auto, using(crate::proofs::Ways::path_needs))]
+#[inline(never)]
 fn path_need(closed: u32, count: usize, list: &[f32]) -> Size
     requires { Fit (Path closed count) list.now }
     ensures { pair_of result ≡ size_of (shape_commands (Path closed count) list.now) }
@@ -90,6 +92,7 @@ impl<'a> Drawing<'a> {
 
     // What it needs, exactly: the one count that drawing, telling and merging go by.
     #[tactic(auto, using(crate::proofs::Ways::arms))]
+    #[inline(always)]
     pub fn need(&self) -> Size
         ensures { pair_of result ≡ size_of (commands_of self.now) }
     {
