@@ -17,7 +17,7 @@ use Rattle.command.specs.declared.PathCommand.{PathCommand}
 use Rattle.command.specs.declared.Refusal.{Refusal}
 use Rattle.command.specs.declared.Refusal.TheVariants.{Empty, TooMany, OutOfRange, Unsupported, OutOfBounds}
 use Rattle.command.specs.Refusals.{refusal_number}
-use Rattle.command.specs.Outcomes.{Outcome, ◌gives◌, checked, number_of}
+use Rattle.command.specs.Outcomes.{Outcome, mapped, ◌gives◌, checked, number_of}
 use Rattle.command.specs.Buffers.{in_buffers, fitted, FilledBoth, codes_told, numbers_told}
 use Rattle.command.proofs.Buffers.{both_unfilled}
 use Rattle.command.proofs.Verdicts.{behind_refused, behind_passed, all_pass}
@@ -25,12 +25,14 @@ use Rattle.rect.specs.Rect.{corner_radius}
 use Rattle.shape.specs.declared.Shape.{Shape}
 use Rattle.shape.specs.declared.Shape.TheVariants.{Path, Rect, Ellipse}
 use Rattle.shape.specs.Shape.{shape_commands, Fit}
+use Rattle.shape.specs.declared.Drawing.{Drawing}
+use Rattle.shape.specs.Drawings.{commands_of}
 use Rattle.item.specs.declared.Kind.TheVariants as Kind
 use Rattle.item.specs.declared.ItemRow.{ItemRow}
 use Rattle.item.specs.Rows.{item_row, entries_of}
 use Rattle.path.specs.Path.{path_commands}
 use Rattle.item.proofs.Entries.{entries_path, entries_rect, entries_ellipse}
-use Rattle.draw.specs.Checks.{coordinate_limit, outcome_of, Ready}
+use Rattle.draw.specs.Checks.{coordinate_limit}
 use Rattle.draw.specs.Paths.{path_checks, draw_path}
 use Rattle.draw.proofs.Sources.{SourcePassed, source_passed, path_passed}
 use Rattle.draw.specs.Items.{is_held_back, has_no_vertices, item_shape, source_checks, shape_drawn, draw_source, item_checks, draw_item}
@@ -64,49 +66,65 @@ taken v n h = sym (length-take-le n v h)
 pub ruleset path_drawings = (path_ready, path_refused, path_drawn_whole)
 
 -- ---- shape_of
+tail : (l : List Float) (a : ℕ) → take (length l - a) (drop a l) ≡ drop a l
+tail l a = take_all (length l - a) (drop a l) (rw length-drop (le_refl (length l - a)))
+
 module _ (row : ItemRow) (items : List Float) (some : has_no_vertices row ≡ false) (few : row.count ≤ 1024) (inside : row.place + entries_of row ≤ length items) where
   abbrev from : List Float
   from = drop row.place items
 
-  module _ (h : row.kind ≡ Kind.Path) where
-    pub shape_path : outcome_of (Ok (row.place, (Path row.mark row.count))) items ≡ shape_drawn row from
-    unfolding shape_drawn item_shape outcome_of
-    shape_path = rw h
+  -- the slice from the row's place on
+  abbrev list : List Float
+  list = take (length items - row.place) from
 
-    pub path_fits : Ready (Ok (row.place, (Path row.mark row.count))) items
+  list_is : list ≡ from
+  list_is = tail items row.place
+
+  list_long : length list ≡ length items - row.place
+  list_long = ap length list_is ∙ length-drop row.place items
+
+  pub place_inside : row.place ≤ length items
+  place_inside = omega arith
+
+  module _ (h : row.kind ≡ Kind.Path) where
+    pub shape_path : Ok (shape_commands (Path row.mark row.count) list) ≡ shape_drawn row from
+    unfolding shape_drawn item_shape
+    shape_path = rw (h, list_is)
+
+    pub path_fits : Fit (Path row.mark row.count) list
     path_fits =
         let is : entries_of row ≡ 6 * row.count = entries_path row (rw h) in
         let one : row.count ≡ 0 → ⊥ = eqb-false row.count 0 (rw h at some) in
-        (omega arith, record { some = omega arith; few = few; inside = rw length-drop (omega arith) })
+        record { some = omega arith; few = few; inside = omega (arith, list_long) }
 
   module _ (h : row.kind ≡ Kind.Rect) where
     five : entries_of row ≡ 5
     five = entries_rect row (rw h) (rw h)
 
-    pub five_inside : (j : ℕ) → j < 5 → row.place + j < length items
-    five_inside j g = omega (arith, five)
+    pub five_inside : 4 < length list
+    five_inside = omega (arith, five, list_long)
 
     pub shape_rect : (radius : Float)
-        → radius ≡ corner_radius (get_or items (row.place + 2) nan) (get_or items (row.place + 3) nan) (get_or items (row.place + 4) nan)
-        → outcome_of (Ok (row.place, (Rect radius))) items ≡ shape_drawn row from
-    unfolding shape_drawn item_shape outcome_of
-    shape_rect radius e =
-        rw (h, e, get_or-drop row.place items 2 nan, get_or-drop row.place items 3 nan, get_or-drop row.place items 4 nan)
+        → radius ≡ corner_radius (get_or list 2 nan) (get_or list 3 nan) (get_or list 4 nan)
+        → Ok (shape_commands (Rect radius) list) ≡ shape_drawn row from
+    unfolding shape_drawn item_shape
+    shape_rect radius e = rw (h, e, list_is)
 
-    pub rect_fits : (radius : Float) → Ready (Ok (row.place, (Rect radius))) items
-    rect_fits radius = (omega arith, rw length-drop (omega (arith, five)))
+    pub rect_fits : 4 ≤ length list
+    rect_fits = omega (arith, five, list_long)
 
   module _ (h : row.kind ≡ Kind.Ellipse) where
-    pub shape_ellipse : outcome_of (Ok (row.place, Ellipse)) items ≡ shape_drawn row from
-    unfolding shape_drawn item_shape outcome_of
-    shape_ellipse = rw h
+    pub shape_ellipse : Ok (shape_commands Ellipse list) ≡ shape_drawn row from
+    unfolding shape_drawn item_shape
+    shape_ellipse = rw (h, list_is)
 
-    pub ellipse_fits : Ready (Ok (row.place, Ellipse)) items
+    pub ellipse_fits : 4 ≤ length list
     ellipse_fits =
         let four : entries_of row ≡ 4 = entries_ellipse row (rw h) (rw h) (rw h) in
-        (omega arith, rw length-drop (omega arith))
+        omega (arith, list_long)
 
 pub ruleset kinds = (
+  place_inside,
   shape_path,
   path_fits,
   five_inside,
@@ -223,49 +241,28 @@ module _ (row : ItemRow) (items : List Float) (u : Outcome (Unit {0})) (u_is : u
     pub numbers_inside : row.place + entries_of row ≤ length items
     numbers_inside = passed.inside
 
-    pub source_made : (k : Outcome (ℕ × Shape)) → outcome_of k items ≡ shape_drawn row rest → outcome_of k items ≡ draw_source row items
-    unfolding draw_source
-    source_made k is = is ∙ sym (behind_passed (source_checks row items) u u_is e (shape_drawn row rest))
+    module _ (k : Outcome Drawing) (k_is : mapped commands_of k ≡ shape_drawn row rest) where
+      pub source_made : mapped commands_of k ≡ draw_source row items
+      unfolding draw_source
+      source_made = k_is ∙ sym (behind_passed (source_checks row items) u u_is e (shape_drawn row rest))
 
-pub ruleset behind_checks = (some_vertices, few_vertices, numbers_inside, source_made)
+      pub shape_refused : (codes : List ℕ) (numbers : List Float) (r : Refusal) → k ≡ Err r
+          → FilledBoth (fitted (in_buffers (length codes) (length numbers)) (draw_source row items)) (refusal_number r) 0 0 codes codes numbers numbers
+      unfolding fitted
+      shape_refused codes numbers r is = rw (← source_made, is) (both_unfilled r codes numbers)
 
--- ---- draw_checked
-pub tail : (l : List Float) (a : ℕ) → take (length l - a) (drop a l) ≡ drop a l
-tail l a = take_all (length l - a) (drop a l) (rw length-drop (le_refl (length l - a)))
+      pub shape_filled : (d : Drawing) (codes codes' : List ℕ) (numbers numbers' : List Float) (r : Outcome Size) → k ≡ Ok d
+          → FilledBoth (fitted (in_buffers (length codes) (length numbers)) (Ok (commands_of d))) (number_of r) (codes_told r) (numbers_told r)
+          codes codes' numbers numbers'
+          → FilledBoth (fitted (in_buffers (length codes) (length numbers)) (draw_source row items)) (number_of r) (codes_told r) (numbers_told r)
+          codes codes' numbers numbers'
+      shape_filled d codes codes' numbers numbers' r is f = rw (← source_made, is) f
 
-module _ (k : Outcome (ℕ × Shape)) (v : List Float) where
-  pub fault_refused : (codes : List ℕ) (numbers : List Float) (r : Refusal) → k ≡ Err r
-      → FilledBoth (fitted (in_buffers (length codes) (length numbers)) (outcome_of k v)) (refusal_number r) 0 0 codes codes numbers numbers
-  unfolding outcome_of fitted
-  fault_refused codes numbers r is =
-      rw is (both_unfilled r codes numbers)
+pub ruleset behind_checks = (some_vertices, few_vertices, numbers_inside)
 
-  module _ (place : ℕ) (s : Shape) (is : k ≡ Ok (place, s)) where
-    ready_sound : Ready k v → (place ≤ length v) × Fit s (drop place v)
-    ready_sound ready = rw is at ready
+pub ruleset source_drawings = (source_refused, shape_refused, shape_filled, behind_checks)
 
-    pub sound_place : Ready k v → place ≤ length v
-    sound_place ready = (ready_sound ready).0
-
-    pub sound_fit : Ready k v → Fit s (take (length v - place) (drop place v))
-    sound_fit ready = rw (tail v place) (ready_sound ready).1
-
-    pub sound_drawn : (codes codes' : List ℕ) (numbers numbers' : List Float) (r : Outcome Size)
-        → FilledBoth (fitted (in_buffers (length codes) (length numbers)) (Ok (shape_commands s (take (length v - place) (drop place v))))) (number_of r) (codes_told r) (numbers_told r)
-        codes codes' numbers numbers'
-        → FilledBoth (fitted (in_buffers (length codes) (length numbers)) (outcome_of k v)) (number_of r) (codes_told r) (numbers_told r) codes codes' numbers numbers'
-    unfolding outcome_of
-    sound_drawn codes codes' numbers numbers' r f = rw is (rw (tail v place) at f)
-
--- ---- draw_source and draw_item
-pub as_checked : (k : Outcome (ℕ × Shape)) (v : List Float) (o : Outcome (List PathCommand)) (codes codes' : List ℕ) (numbers numbers' : List Float) (r : Outcome Size)
-    → outcome_of k v ≡ o
-    → FilledBoth (fitted (in_buffers (length codes) (length numbers)) (outcome_of k v)) (number_of r) (codes_told r) (numbers_told r) codes codes' numbers numbers'
-    → FilledBoth (fitted (in_buffers (length codes) (length numbers)) o) (number_of r) (codes_told r) (numbers_told r) codes codes' numbers numbers'
-as_checked k v o codes codes' numbers numbers' r e f = rw (← e) f
-
-pub ruleset source_drawings = (source_refused, as_checked, behind_checks)
-
+-- ---- draw_item
 module _ (row : List ℕ) (items : List Float) (u : Outcome (Unit {0})) (u_is : u ≡ checked (item_checks row) (Ok tt)) where
   pub item_refused : (codes : List ℕ) (numbers : List Float) (r : Refusal) → u ≡ Err r
       → FilledBoth (fitted (in_buffers (length codes) (length numbers)) (draw_item row items)) (refusal_number r) 0 0 codes codes numbers numbers
@@ -289,5 +286,3 @@ module _ (row : List ℕ) (items : List Float) (u : Outcome (Unit {0})) (u_is : 
     item_filled r codes codes' numbers numbers' n is f = rw (← (item_drawn r is)) f
 
 pub ruleset item_drawings = (item_refused, row_whole, item_filled)
-
-pub ruleset drawings = (fault_refused, sound_place, sound_fit, sound_drawn)

@@ -2,16 +2,16 @@
 #![tactic(auto)]
 
 ghost use Rattle.std.specs.Prelude.{◌≡◌, ◌+◌, ◌≤◌, length, drop, false};
-ghost use Rattle.command.specs.Outcomes.{checked, number_of};
+ghost use Rattle.command.specs.Outcomes.{checked, mapped, number_of};
 ghost use Rattle.command.specs.Buffers.{in_buffers, fitted, codes_told, numbers_told, FilledBoth};
 ghost use Rattle.item.specs.Rows.{entries_of};
-ghost use Rattle.draw.specs.Checks.{outcome_of, Ready};
+ghost use Rattle.shape.specs.Drawings.{commands_of};
 ghost use Rattle.draw.specs.Paths.{path_checks, draw_path};
 ghost use Rattle.draw.specs.Items.{is_drawable, is_held_back, has_no_vertices, source_checks, shape_drawn, draw_source, item_checks, draw_item};
 
 use command::{Outcome, Refusal, Size};
 use item::{ItemRow, Kind};
-use shape::Shape;
+use shape::{Drawing, Shape};
 
 // The checks of a vertex list, all but that of the buffers.
 #[tactic(auto, unfolding(crate::specs::Paths::path_checks))]
@@ -60,21 +60,20 @@ fn is_held_back(row: ItemRow) -> bool
     !matches!(row.kind, Kind::Path | Kind::Rect | Kind::Ellipse)
 }
 
-// What a row whose numbers are there and within the limit says is to be drawn, with the place where its numbers start, or
-// why it cannot be.
-#[tactic(auto, using(crate::proofs::Ways::kinds), unfolding(crate::specs::Items::shape_drawn, crate::specs::Items::item_shape, crate::specs::Checks::outcome_of))]
-pub fn shape_of(row: ItemRow, items: &[f32]) -> Outcome<(usize, Shape)>
+// What a row whose numbers are there and within the limit says is to be drawn, or why it cannot be.
+#[tactic(auto, using(crate::proofs::Ways::kinds), unfolding(crate::specs::Items::shape_drawn, crate::specs::Items::item_shape))]
+pub fn shape_of<'a>(row: ItemRow, items: &'a [f32]) -> Outcome<Drawing<'a>>
     requires { (has_no_vertices row ≡ false) × (row.count ≤ 1024) × (row.place + entries_of row ≤ length items.now) }
-    ensures { (outcome_of result items.now ≡ shape_drawn row (drop row.place items.now)) × Ready result items.now }
+    ensures { mapped commands_of result ≡ shape_drawn row (drop row.place items.now) }
 {
-    let i = row.place;
+    let list = &items[row.place..];
     let shape = match row.kind {
         Kind::Path => Shape::Path(row.mark, row.count),
-        Kind::Rect => Shape::Rect(rect::corner_radius(items[i + 2], items[i + 3], items[i + 4])),
+        Kind::Rect => Shape::Rect(rect::corner_radius(list[2], list[3], list[4])),
         Kind::Ellipse => Shape::Ellipse,
         _ => return Err(Refusal::Unsupported),
     };
-    Ok((i, shape))
+    Ok(Drawing { shape, list })
 }
 
 // The checks of a row with listed entries, all but that of the buffers.
@@ -121,24 +120,6 @@ pub fn check_row(row: &[u32]) -> Outcome<()>
     }
 }
 
-// Writes the shape that the checks let pass, if it fits the buffers.
-#[tactic(auto, using(crate::proofs::Ways::drawings))]
-fn draw_checked(
-    shape: Outcome<(usize, Shape)>,
-    list: &[f32],
-    codes: &mut [u8],
-    numbers: &mut [f32],
-) -> Outcome<Size>
-    requires { Ready shape list.now }
-    ensures { FilledBoth
-        (fitted (in_buffers (length codes.old) (length numbers.old)) (outcome_of shape list.now))
-        (number_of result) (codes_told result) (numbers_told result)
-        codes.old codes.new numbers.old numbers.new }
-{
-    let (place, shape) = shape?;
-    shape::draw_shape(shape, &list[place..], codes, numbers)
-}
-
 // Draws the first `count` vertices of a list, each of six numbers, into two buffers.
 #[tactic(auto, using(crate::proofs::Ways::path_drawings))]
 pub fn draw_path(
@@ -154,7 +135,11 @@ pub fn draw_path(
         codes.old codes.new numbers.old numbers.new }
 {
     check_path(closed, vertices, count)?;
-    shape::draw_shape(Shape::Path(closed, count), vertices, codes, numbers)
+    let drawing = Drawing {
+        shape: Shape::Path(closed, count),
+        list: vertices,
+    };
+    drawing.draw(codes, numbers)
 }
 
 // Draws a row with listed entries into two buffers.
@@ -166,7 +151,8 @@ fn draw_source(row: ItemRow, items: &[f32], codes: &mut [u8], numbers: &mut [f32
         codes.old codes.new numbers.old numbers.new }
 {
     check_source(row, items)?;
-    draw_checked(shape_of(row, items), items, codes, numbers)
+    let drawing = shape_of(row, items)?;
+    drawing.draw(codes, numbers)
 }
 
 // Draws one item row into two buffers.

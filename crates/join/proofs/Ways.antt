@@ -24,13 +24,11 @@ use Rattle.command.specs.Buffers.{in_buffers, fitted, FilledBoth, size_of, need_
 use Rattle.command.proofs.Outcomes.{refused_accepted}
 use Rattle.command.proofs.Lists.{codes_length, codes_append, numbers_append}
 use Rattle.command.proofs.Buffers.{sets_append, fitted_accepted, fitted_refused, filled, both_unfilled}
-use Rattle.shape.specs.declared.Shape.{Shape}
-use Rattle.shape.specs.Shape.{shape_commands}
+use Rattle.shape.specs.declared.Drawing.{Drawing}
+use Rattle.shape.specs.Drawings.{commands_of}
 use Rattle.item.specs.declared.ItemRow.{ItemRow}
 use Rattle.item.specs.Rows.{item_row, row_of, entries_of}
-use Rattle.draw.specs.Checks.{outcome_of}
 use Rattle.draw.specs.Items.{has_no_vertices, shape_drawn, draw_source}
-use Rattle.draw.proofs.Ways.{sound_place, sound_fit, tail}
 use Rattle.draw.proofs.Sources.{DrawnSource, drawn_source, source_few, source_numbers_few}
 use Rattle.need.proofs.Enough.{drawn_needs}
 use Rattle.nest.specs.Lists.{rows_from}
@@ -218,39 +216,34 @@ module _ (row : ItemRow) (items : List Float) (t : Bool) (is : t ≡ is_source_r
     pub row_entries : row.place + entries_of row ≤ length items
     row_entries = row_met.passed.inside
 
-    -- the shape that is made draws what the row draws
-    module _ (k : Outcome (ℕ × Shape)) (k_is : outcome_of k items ≡ shape_drawn row (drop row.place items)) where
-      row_drawn_as : outcome_of k items ≡ Ok (list_of (draw_row row items))
+    -- the drawing that is made has the row's commands
+    module _ (k : Outcome Drawing) (k_is : mapped commands_of k ≡ shape_drawn row (drop row.place items)) where
+      row_drawn_as : mapped commands_of k ≡ Ok (list_of (draw_row row items))
       row_drawn_as = k_is ∙ row_met.drawn
 
       pub row_not_refused : (r : Refusal) → k ≡ Err r → {A : Type 0} → A
-      unfolding outcome_of
-      row_not_refused r e = refused_accepted r (list_of (draw_row row items)) (ap (λ (x : Outcome (ℕ × Shape)). outcome_of x items) (sym e) ∙ row_drawn_as)
+      row_not_refused r e = refused_accepted r (list_of (draw_row row items)) (ap (mapped commands_of) (sym e) ∙ row_drawn_as)
 
-      module _ (place : ℕ) (s : Shape) (e : k ≡ Ok (place, s)) where
-        abbrev part : List Float
-        part = take (length items - place) (drop place items)
+      module _ (d : Drawing) (e : k ≡ Ok d) where
+        row_commands : commands_of d ≡ list_of (draw_row row items)
+        row_commands = ap list_of (ap (mapped commands_of) (sym e) ∙ row_drawn_as)
 
-        row_commands : shape_commands s part ≡ list_of (draw_row row items)
-        unfolding outcome_of
-        row_commands = ap (shape_commands s) (tail items place) ∙ ap list_of (ap (λ (x : Outcome (ℕ × Shape)). outcome_of x items) (sym e) ∙ row_drawn_as)
-
-        pub row_codes_room : (i n : ℕ) → i + length (codes_in (draw_row row items)) ≤ n → i + length (codes_of (shape_commands s part)) ≤ n
+        pub row_codes_room : (i n : ℕ) → i + length (codes_in (draw_row row items)) ≤ n → i + length (codes_of (commands_of d)) ≤ n
         row_codes_room i n room = rw row_commands room
 
-        pub row_numbers_room : (j n : ℕ) → j + length (numbers_in (draw_row row items)) ≤ n → j + length (numbers_of (shape_commands s part)) ≤ n
+        pub row_numbers_room : (j n : ℕ) → j + length (numbers_in (draw_row row items)) ≤ n → j + length (numbers_of (commands_of d)) ≤ n
         row_numbers_room j n room = rw row_commands room
 
-        pub row_codes_after : (i r : ℕ) → r ≡ i + length (codes_of (shape_commands s part)) → r ≡ i + length (codes_in (draw_row row items))
+        pub row_codes_after : (i r : ℕ) → r ≡ i + length (codes_of (commands_of d)) → r ≡ i + length (codes_in (draw_row row items))
         row_codes_after i r e = e ∙ ap (λ (cs : List PathCommand). i + length (codes_of cs)) row_commands
 
-        pub row_numbers_after : (j r : ℕ) → r ≡ j + length (numbers_of (shape_commands s part)) → r ≡ j + length (numbers_in (draw_row row items))
+        pub row_numbers_after : (j r : ℕ) → r ≡ j + length (numbers_of (commands_of d)) → r ≡ j + length (numbers_in (draw_row row items))
         row_numbers_after j r e = e ∙ ap (λ (cs : List PathCommand). j + length (numbers_of cs)) row_commands
 
-        pub row_codes_written : (codes codes' : List ℕ) (i : ℕ) → codes' ≡ sets codes i (codes_of (shape_commands s part)) → codes' ≡ sets codes i (codes_in (draw_row row items))
+        pub row_codes_written : (codes codes' : List ℕ) (i : ℕ) → codes' ≡ sets codes i (codes_of (commands_of d)) → codes' ≡ sets codes i (codes_in (draw_row row items))
         row_codes_written codes codes' i e = e ∙ ap (λ (cs : List PathCommand). sets codes i (codes_of cs)) row_commands
 
-        pub row_numbers_written : (numbers numbers' : List Float) (j : ℕ) → numbers' ≡ sets numbers j (numbers_of (shape_commands s part))
+        pub row_numbers_written : (numbers numbers' : List Float) (j : ℕ) → numbers' ≡ sets numbers j (numbers_of (commands_of d))
             → numbers' ≡ sets numbers j (numbers_in (draw_row row items))
         row_numbers_written numbers numbers' j e = e ∙ ap (λ (cs : List PathCommand). sets numbers j (numbers_of cs)) row_commands
 
@@ -275,8 +268,6 @@ pub ruleset row_writes = (
   row_count,
   row_entries,
   row_not_refused,
-  sound_place,
-  sound_fit,
   row_codes_room,
   row_numbers_room,
   row_codes_after,

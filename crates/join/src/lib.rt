@@ -68,7 +68,7 @@ fn write_row(
                 codes: i,
                 numbers: j,
             },
-            Ok((place, shape)) => shape::write_at(shape, &items[place..], codes, i, numbers, j),
+            Ok(drawing) => drawing.write(codes, i, numbers, j),
         }
     } else {
         Size {

@@ -15,12 +15,13 @@ use Rattle.path.specs.Path.{path_commands}
 use Rattle.shape.specs.declared.Shape.{Shape}
 use Rattle.shape.specs.declared.Shape.TheVariants.{Path}
 use Rattle.shape.specs.Shape.{shape_commands}
+use Rattle.shape.specs.declared.Drawing.{Drawing}
+use Rattle.shape.specs.Drawings.{commands_of}
 use Rattle.item.specs.declared.ItemRow.{ItemRow}
 use Rattle.item.specs.Rows.{item_row}
-use Rattle.draw.specs.Checks.{outcome_of}
 use Rattle.draw.specs.Paths.{path_checks, draw_path}
 use Rattle.draw.specs.Items.{source_checks, shape_drawn, draw_source, item_checks, draw_item}
-use Rattle.draw.proofs.Ways.{tail, path_ready, source_made, behind_checks, row_whole, item_drawn, sound_place, sound_fit}
+use Rattle.draw.proofs.Ways.{path_ready, source_made, behind_checks, row_whole, item_drawn}
 
 -- ---- path_need
 module _ (closed : ℕ) (v : List Float) (count : ℕ) (u : Outcome (Unit {0})) (u_is : u ≡ checked (path_checks closed v count) (Ok tt)) where
@@ -35,30 +36,19 @@ module _ (closed : ℕ) (v : List Float) (count : ℕ) (u : Outcome (Unit {0})) 
 
 pub ruleset path_needs = (path_ready, path_turned, path_counted)
 
--- ---- checked_need
-module _ (k : Outcome (ℕ × Shape)) (v : List Float) where
-  pub fault_need : (r : Refusal) → k ≡ Err r → Err r ≡ need_of (outcome_of k v)
-  unfolding outcome_of
-  fault_need r is = rw is
-
-  pub sound_need : (place : ℕ) (s : Shape) → k ≡ Ok (place, s) → (size : Size)
-      → pair_of size ≡ size_of (shape_commands s (take (length v - place) (drop place v))) → Ok (size.codes, size.numbers) ≡ need_of (outcome_of k v)
-  unfolding outcome_of
-  sound_need place s is size e = rw is (ap Ok (rw (tail v place) at e))
-
-pub ruleset checked_needs = (fault_need, sound_need, sound_place, sound_fit)
-
 -- ---- source_need
 module _ (row : ItemRow) (items : List Float) (u : Outcome (Unit {0})) (u_is : u ≡ checked (source_checks row items) (Ok tt)) where
   pub source_turned : (r : Refusal) → u ≡ Err r → Err r ≡ need_of (draw_source row items)
   unfolding draw_source
   source_turned r e = rw (behind_refused (source_checks row items) u u_is r e (shape_drawn row (drop row.place items)))
 
-  pub source_counted : u ≡ Ok tt → (k : Outcome (ℕ × Shape)) (r : Outcome Size) → outcome_of k items ≡ shape_drawn row (drop row.place items)
-      → mapped pair_of r ≡ need_of (outcome_of k items) → mapped pair_of r ≡ need_of (draw_source row items)
-  source_counted e k r is f = f ∙ ap need_of (source_made row items u u_is e k is)
+  module _ (e : u ≡ Ok tt) (k : Outcome Drawing) (k_is : mapped commands_of k ≡ shape_drawn row (drop row.place items)) where
+    pub shape_turned : (r : Refusal) → k ≡ Err r → Err r ≡ need_of (draw_source row items)
+    shape_turned r is = rw (← (source_made row items u u_is e k k_is), is)
 
-pub ruleset source_needs = (source_turned, source_counted, behind_checks)
+    pub shape_counted : (d : Drawing) (size : Size) → k ≡ Ok d → pair_of size ≡ size_of (commands_of d)
+        → Ok (size.codes, size.numbers) ≡ need_of (draw_source row items)
+    shape_counted d size is f = rw (← (source_made row items u u_is e k k_is), is) (ap Ok f)
 
 -- ---- item_need
 module _ (row : List ℕ) (items : List Float) (u : Outcome (Unit {0})) (u_is : u ≡ checked (item_checks row) (Ok tt)) where
@@ -71,8 +61,12 @@ module _ (row : List ℕ) (items : List Float) (u : Outcome (Unit {0})) (u_is : 
     pub item_source_turned : (r : Refusal) → w ≡ Err r → Err r ≡ need_of (draw_item row items)
     item_source_turned r f = source_turned first items w w_is r f ∙ ap need_of (item_drawn row items u u_is e first is)
 
-    pub item_counted : w ≡ Ok tt → (k : Outcome (ℕ × Shape)) (r : Outcome Size) → outcome_of k items ≡ shape_drawn first (drop first.place items)
-        → mapped pair_of r ≡ need_of (outcome_of k items) → mapped pair_of r ≡ need_of (draw_item row items)
-    item_counted f k r made g = source_counted first items w w_is f k r made g ∙ ap need_of (item_drawn row items u u_is e first is)
+    module _ (f : w ≡ Ok tt) (k : Outcome Drawing) (k_is : mapped commands_of k ≡ shape_drawn first (drop first.place items)) where
+      pub item_shape_turned : (r : Refusal) → k ≡ Err r → Err r ≡ need_of (draw_item row items)
+      item_shape_turned r g = shape_turned first items w w_is f k k_is r g ∙ ap need_of (item_drawn row items u u_is e first is)
 
-pub ruleset item_needs = (item_turned, row_whole, item_source_turned, item_counted, behind_checks)
+      pub item_counted : (d : Drawing) (size : Size) → k ≡ Ok d → pair_of size ≡ size_of (commands_of d)
+          → Ok (size.codes, size.numbers) ≡ need_of (draw_item row items)
+      item_counted d size g h = shape_counted first items w w_is f k k_is d size g h ∙ ap need_of (item_drawn row items u u_is e first is)
+
+pub ruleset item_needs = (row_whole, behind_checks)

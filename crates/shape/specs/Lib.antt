@@ -1,2 +1,3 @@
--- What a shape draws.
+-- What a shape draws, and what a drawing does.
 pub mod Shape
+pub mod Drawings

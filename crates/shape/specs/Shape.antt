@@ -1,6 +1,8 @@
 -- What a shape draws, and room that is enough for it. Definitions only.
 use Rattle.std.specs.Prelude.{ℕ, ◌+◌, ◌*◌, ◌≤◌, List, Float, length, get_or}
 use Rattle.std.specs.Float.{nan}
+use Rattle.std.specs.Coded.{le_prop}
+use Rattle.std.proofs.Props.{props}
 use Rattle.command.specs.declared.PathCommand.{PathCommand}
 use Rattle.path.specs.Path.{path_commands, Sound}
 use Rattle.rect.specs.declared.Bounds.{Bounds}
@@ -25,6 +27,11 @@ abbrev pub Fit : Shape → List Float → Type 0
 Fit (Path closed count) v = Sound v count
 Fit (Rect radius) v = 4 ≤ length v
 Fit Ellipse v = 4 ≤ length v
+
+pub fit_prop : (s : Shape) (v : List Float) → IsProp (Fit s v)
+fit_prop (Path closed count) v = Prim.hlevel props
+fit_prop (Rect radius) v = le_prop
+fit_prop Ellipse v = le_prop
 
 -- ---- Room that is enough for a shape, whatever its numbers: what it needs is within this (`shape_enough` in proofs/Enough.antt).
 

@@ -8,13 +8,13 @@ ghost use Rattle.command.specs.Outcomes.{number_of};
 ghost use Rattle.command.specs.Buffers.{fitted, in_buffers, codes_told, numbers_told, FilledBoth, size_of, pair_of};
 ghost use Rattle.pen.specs.Pens.{HasRoom, Wrote};
 ghost use Rattle.shape.specs.declared.Shape.TheVariants.{Path, Rect, Ellipse};
-ghost use Rattle.shape.specs.Shape.{bounds_of, shape_commands, Fit};
+ghost use Rattle.shape.specs.Shape.{bounds_of, shape_commands, Fit, fit_prop};
 
 use command::{Outcome, Refusal, Size};
 use pen::Pen;
 use rect::Bounds;
 
-// What is to be drawn, and what decides how much of it there is. Its numbers stand in a list beside it.
+// What is to be drawn, and what decides how much of it there is. Its numbers stand in the list of a `Drawing`.
 #[derive(Clone, Copy)]
 pub enum Shape {
     // The closed flag, and how many vertices. The list has six numbers a vertex.
@@ -25,33 +25,25 @@ pub enum Shape {
     Ellipse,
 }
 
-// What a path needs: each of its segments may be a line or a cubic, so all are looked at. A vertex list, known to be a path,
-// asks here and not `need_of`. So there are two callers and this is not inlined, and `need_of`, which stays small, is.
-pub fn need_of_path(closed: u32, count: usize, list: &[f32]) -> Size
+// A shape and the list that its numbers start: they are all there, and it has at least one vertex and not too many.
+#[derive(Clone, Copy)]
+pub struct Drawing<'a> {
+    pub shape: Shape,
+    pub list: &'a [f32],
+    ghost fits: { Fit shape list.now } by { fit_prop shape list.now },
+}
+
+// What a path needs: each of its segments may be a line or a cubic, so all are looked at. This is a call of its own, so that
+// `need`, which stays small, can be inlined.
+#[tactic(auto, using(crate::proofs::Ways::path_needs))]
+#[inline(never)]
+fn path_need(closed: u32, count: usize, list: &[f32]) -> Size
     requires { Fit (Path closed count) list.now }
     ensures { pair_of result ≡ size_of (shape_commands (Path closed count) list.now) }
 {
     Size {
         codes: path::bezier_count(closed, count),
         numbers: segments::path_numbers(closed, list, count),
-    }
-}
-
-// What a shape needs, exactly: the one count that drawing, telling and merging go by; of a path it is the one above.
-pub fn need_of(shape: Shape, list: &[f32]) -> Size
-    requires { Fit shape list.now }
-    ensures { pair_of result ≡ size_of (shape_commands shape list.now) }
-{
-    match shape {
-        Shape::Path(closed, count) => need_of_path(closed, count, list),
-        Shape::Rect(radius) => Size {
-            codes: rect::rect_count(radius),
-            numbers: rect::rect_numbers(radius),
-        },
-        Shape::Ellipse => Size {
-            codes: 6,
-            numbers: 26,
-        },
     }
 }
 
@@ -65,7 +57,7 @@ fn bounds_of(list: &[f32]) -> Bounds
 
 // Writes a rectangle.
 fn write_rect(radius: f32, list: &[f32], pen: &mut Pen)
-    requires fit { Fit (Rect radius) list.now }
+    requires there { 4 ≤ length list.now }
     requires room { HasRoom (shape_commands (Rect radius) list.now) pen.old }
     ensures { Wrote (shape_commands (Rect radius) list.now) pen.old pen.new }
 {
@@ -79,64 +71,13 @@ fn write_rect(radius: f32, list: &[f32], pen: &mut Pen)
 
 // Writes an ellipse.
 fn write_ellipse(list: &[f32], pen: &mut Pen)
-    requires fit { Fit Ellipse list.now }
+    requires there { 4 ≤ length list.now }
     requires room { HasRoom (shape_commands Ellipse list.now) pen.old }
     ensures { Wrote (shape_commands Ellipse list.now) pen.old pen.new }
 {
     let bounds = bounds_of(list);
     let commands = ellipse::ellipse_commands(bounds, list[0], list[1], list[2], list[3]);
     pen.put_all(&commands);
-}
-
-// Writes a shape.
-pub fn write(shape: Shape, list: &[f32], pen: &mut Pen)
-    requires fit { Fit shape list.now }
-    requires room { HasRoom (shape_commands shape list.now) pen.old }
-    ensures { Wrote (shape_commands shape list.now) pen.old pen.new }
-{
-    match shape {
-        Shape::Path(closed, count) => segment_writer::write_path(closed, list, count, pen),
-        Shape::Rect(radius) => write_rect(radius, list, pen),
-        Shape::Ellipse => write_ellipse(list, pen),
-    }
-}
-
-// Writes a shape at places of buffers that it fits, and gives the places after it.
-pub fn write_at(
-    shape: Shape,
-    list: &[f32],
-    codes: &mut [u8],
-    i: usize,
-    numbers: &mut [f32],
-    j: usize,
-) -> Size
-    requires fit { Fit shape list.now }
-    requires list_in_bounds { i + length (codes_of (shape_commands shape list.now)) ≤ length codes.old }
-    requires list_in_bounds_2 { j + length (numbers_of (shape_commands shape list.now)) ≤ length numbers.old }
-    ensures codes_value { result.codes ≡ i + length (codes_of (shape_commands shape list.now)) }
-    ensures numbers_value { result.numbers ≡ j + length (numbers_of (shape_commands shape list.now)) }
-    ensures codes_after { codes.new ≡ sets codes.old i (codes_of (shape_commands shape list.now)) }
-    ensures numbers_after { numbers.new ≡ sets numbers.old j (numbers_of (shape_commands shape list.now)) }
-{
-    let at = Size {
-        codes: i,
-        numbers: j,
-    };
-    let mut pen = Pen { codes, numbers, at };
-    write(shape, list, &mut pen);
-    pen.at
-}
-
-// Whether two buffers of these lengths are enough for any path of so many vertices, so that this one need not be counted.
-// What the other kinds need is told without a look at their numbers.
-fn is_ample(shape: Shape, list: &[f32], codes: usize, numbers: usize) -> bool
-    requires { Fit shape list.now }
-    ensures { result ≡ true → in_buffers codes numbers (shape_commands shape list.now) ≡ true }
-{
-    match shape {
-        Shape::Path(_, count) => count + 2 <= codes && 6 * count + 2 <= numbers,
-        Shape::Rect(_) | Shape::Ellipse => false,
-    }
 }
 
 // Whether two buffers of these lengths have so many places.
@@ -146,25 +87,89 @@ fn holds(size: Size, codes: usize, numbers: usize) -> bool
     size.codes <= codes && size.numbers <= numbers
 }
 
-// Whether a shape fits two buffers of these lengths.
-fn fits(shape: Shape, list: &[f32], codes: usize, numbers: usize) -> bool
-    requires { Fit shape list.now }
-    ensures { result ≡ in_buffers codes numbers (shape_commands shape list.now) }
-{
-    is_ample(shape, list, codes, numbers) || holds(need_of(shape, list), codes, numbers)
-}
+impl<'a> Drawing<'a> {
+    ghost use Rattle.shape.specs.Drawings.{commands_of};
 
-// Writes a shape from the start of two buffers, if it fits them.
-pub fn draw_shape(shape: Shape, list: &[f32], codes: &mut [u8], numbers: &mut [f32]) -> Outcome<Size>
-    requires { Fit shape list.now }
-    ensures { FilledBoth
-        (fitted (in_buffers (length codes.old) (length numbers.old)) (Ok (shape_commands shape list.now)))
-        (number_of result) (codes_told result) (numbers_told result)
-        codes.old codes.new numbers.old numbers.new }
-{
-    if fits(shape, list, codes.len(), numbers.len()) {
-        Ok(write_at(shape, list, codes, 0, numbers, 0))
-    } else {
-        Err(Refusal::BufferTooSmall)
+    // What it needs, exactly: the one count that drawing, telling and merging go by.
+    #[tactic(auto, using(crate::proofs::Ways::arms))]
+    #[inline(always)]
+    pub fn need(&self) -> Size
+        ensures { pair_of result ≡ size_of (commands_of self.now) }
+    {
+        match self.shape {
+            Shape::Path(closed, count) => path_need(closed, count, self.list),
+            Shape::Rect(radius) => Size {
+                codes: rect::rect_count(radius),
+                numbers: rect::rect_numbers(radius),
+            },
+            Shape::Ellipse => Size {
+                codes: 6,
+                numbers: 26,
+            },
+        }
+    }
+
+    // Writes it with a pen.
+    fn put(&self, pen: &mut Pen)
+        requires { HasRoom (commands_of self.now) pen.old }
+        ensures { Wrote (commands_of self.now) pen.old pen.new }
+    {
+        match self.shape {
+            Shape::Path(closed, count) => segment_writer::write_path(closed, self.list, count, pen),
+            Shape::Rect(radius) => write_rect(radius, self.list, pen),
+            Shape::Ellipse => write_ellipse(self.list, pen),
+        }
+    }
+
+    // Writes it at places of buffers that it fits, and gives the places after it.
+    pub fn write(&self, codes: &mut [u8], i: usize, numbers: &mut [f32], j: usize) -> Size
+        requires codes_room { i + length (codes_of (commands_of self.now)) ≤ length codes.old }
+        requires numbers_room { j + length (numbers_of (commands_of self.now)) ≤ length numbers.old }
+        ensures codes_value { result.codes ≡ i + length (codes_of (commands_of self.now)) }
+        ensures numbers_value { result.numbers ≡ j + length (numbers_of (commands_of self.now)) }
+        ensures codes_after { codes.new ≡ sets codes.old i (codes_of (commands_of self.now)) }
+        ensures numbers_after { numbers.new ≡ sets numbers.old j (numbers_of (commands_of self.now)) }
+    {
+        let at = Size {
+            codes: i,
+            numbers: j,
+        };
+        let mut pen = Pen { codes, numbers, at };
+        self.put(&mut pen);
+        pen.at
+    }
+
+    // Whether two buffers of these lengths are enough for any path of so many vertices, so that this one need not be counted.
+    // What the other kinds need is told without a look at their numbers.
+    #[tactic(auto, using(crate::proofs::Ways::amples, crate::proofs::Ways::path_ample))]
+    fn is_ample(&self, codes: usize, numbers: usize) -> bool
+        ensures { result ≡ true → in_buffers codes numbers (commands_of self.now) ≡ true }
+    {
+        match self.shape {
+            Shape::Path(_, count) => count + 2 <= codes && 6 * count + 2 <= numbers,
+            Shape::Rect(_) | Shape::Ellipse => false,
+        }
+    }
+
+    // Whether it fits two buffers of these lengths.
+    #[tactic(auto, using(crate::proofs::Ways::fittings))]
+    fn is_within(&self, codes: usize, numbers: usize) -> bool
+        ensures { result ≡ in_buffers codes numbers (commands_of self.now) }
+    {
+        self.is_ample(codes, numbers) || holds(self.need(), codes, numbers)
+    }
+
+    // Writes it from the start of two buffers, if it fits them.
+    pub fn draw(&self, codes: &mut [u8], numbers: &mut [f32]) -> Outcome<Size>
+        ensures { FilledBoth
+            (fitted (in_buffers (length codes.old) (length numbers.old)) (Ok (commands_of self.now)))
+            (number_of result) (codes_told result) (numbers_told result)
+            codes.old codes.new numbers.old numbers.new }
+    {
+        if self.is_within(codes.len(), numbers.len()) {
+            Ok(self.write(codes, 0, numbers, 0))
+        } else {
+            Err(Refusal::BufferTooSmall)
+        }
     }
 }

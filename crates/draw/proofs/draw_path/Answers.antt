@@ -9,4 +9,4 @@ returns-in_err-check_path c =
     search rules
 
 pub returns : goal.returns
-returns c = path_drawn_whole _ _ _ _ c.check_path.ensures _ _ _ _ _ c.in_ok-check_path.was c.draw_shape.ensures
+returns c = path_drawn_whole _ _ _ _ c.check_path.ensures _ _ _ _ _ c.in_ok-check_path.was c.draw.ensures

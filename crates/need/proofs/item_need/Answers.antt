@@ -1,6 +1,6 @@
 -- `need::item_need` meets its contract. Assumes nothing.
 use borrow.Author.Rules.{rules}
-use Rattle.need.proofs.Ways.{item_turned, item_source_turned, item_needs}
+use Rattle.need.proofs.Ways.{item_turned, item_source_turned, item_shape_turned, item_counted, item_needs}
 use Rattle.need.proofs.item_need.Goals as goal
 
 pub returns-in_err-check_row : goal.returns-in_err-check_row
@@ -19,5 +19,12 @@ returns-in_err-check_source c =
 pub shape_of-requires : goal.shape_of-requires
 shape_of-requires c = search (rules, item_needs)
 
+pub returns-in_err-drawing : goal.returns-in_err-drawing
+returns-in_err-drawing c =
+    let f = item_shape_turned c.args.row.now c.args.items.now _ c.check_row.ensures c.in_ok-check_row.was _ c.item_row-first.ensures _ c.check_source.ensures c.in_ok-check_source.was _ c.shape_of.ensures _ c.in_err-drawing.was in
+    search rules
+
 pub returns : goal.returns
-returns c = search (rules, item_needs)
+returns c =
+    item_counted c.args.row.now c.args.items.now _ c.check_row.ensures c.in_ok-check_row.was _ c.item_row-first.ensures _ c.check_source.ensures c.in_ok-check_source.was _ c.shape_of.ensures _ _ c.in_ok-drawing.was
+    c.need.ensures
