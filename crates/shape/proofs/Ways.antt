@@ -125,7 +125,7 @@ pub ruleset ellipse_arms = (ellipse_fit, ellipse_six, ellipse_few)
 
 pub ruleset arms = (path_arms, rect_arms, ellipse_arms, need_is, counts_are)
 
--- ---- is_ample, holds and fits
+-- ---- is_ample, holds and is_within
 pub path_ample : (s : Shape) (v : List Float) (closed count codes numbers : ℕ) → s ≡ Path closed count → Fit s v → count + 2 ≤ codes
     → leb (6 * count + 2) numbers ≡ true → in_buffers codes numbers (shape_commands s v) ≡ true
 path_ample s v closed count codes numbers is fit a e =
@@ -149,7 +149,7 @@ fits_anyway s v codes numbers t f e = sym (f e)
 
 pub ruleset fittings = (fits_by_need, fits_anyway)
 
--- ---- draw_shape
+-- ---- draw
 module _ (cs : List PathCommand) (codes : List ℕ) (numbers : List Float) (t : Bool) (t_is : t ≡ in_buffers (length codes) (length numbers) cs) where
   pub too_small : t ≡ false → FilledBoth (fitted (in_buffers (length codes) (length numbers)) (Ok cs)) 11 0 0 codes codes numbers numbers
   too_small e = rw (fitted_refused (in_buffers (length codes) (length numbers)) cs (sym t_is ∙ e)) (both_unfilled BufferTooSmall codes numbers)
