@@ -18,6 +18,7 @@ pub struct Direction {
 
 // How many sixteenths of a degree there are in an angle's size: 16 times it, rounded half up. 32 times
 // it is exact, and one more than its whole part has the half that is asked for.
+// That degrees are within the limit is no type: a repeater holds any number until it is checked, and each part of a step is a new angle.
 fn sixteenths(degrees: f32) -> u64
     requires { within number_limit degrees ≡ true }
     ensures { (result ≡ sixteenths_in degrees) × (result ≤ 2 ^ 24) }

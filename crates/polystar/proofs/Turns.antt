@@ -4,6 +4,8 @@ use mathlib.Core.Path.{◌≡◌, refl, sym, ap, ◌∙◌}
 use mathlib.Core.Bool.{Bool, true, false, cond}
 use native.Mathlib.Nat.{div-lt_iff_lt-mul}
 use native.Mathlib.Omega.{arith}
+use native.Mathlib.Bridge.{le_prop}
+use mathlib.Core.HLevel.{is_prop→PathP}
 use mir.Val.{Fits}
 use mir.Syntax.{w64}
 use lib.Dec.{ltb}
@@ -11,9 +13,11 @@ use lib.IntN.{ℤ, pos, negsuc, sub_ℕ, ◌+ℤ◌, ◌-ℤ◌}
 use lib.Ieee.{Float, nan}
 use lib.ListN.{get_or}
 use borrow.Author.Tests.{ltb-true, ltb-false}
+use Rattle.sine.specs.declared.Turn.{Turn}
 use Rattle.angle.specs.Sixteenths.{sixteenths_of, reduced, turn_of}
 use Rattle.polystar.specs.Polystar.{is_reversed, start_of, steps_to, polystar_of, turn_from}
 use Rattle.polystar.specs.Points.{PointsStand}
+use Rattle.polystar.specs.Reduced.{reduced_below}
 
 -- ---- sums and differences, reduced
 difference : (a b : ℕ) → reduced (sub_ℕ a b) ≡ (a + (5760 - b % 5760)) % 5760
@@ -23,11 +27,6 @@ difference a b = go (ltb a b) refl
     go : (t : Bool) → ltb a b ≡ t → reduced (cond t (negsuc (b - suc a)) (pos (a - b))) ≡ (a + (5760 - b % 5760)) % 5760
     go true e = let h = ltb-true a b e in omega arith
     go false e = let h = ltb-false a b e in omega arith
-
-below : (z : ℤ) → reduced z < 5760
-unfolding reduced
-below (pos n) = omega arith
-below (negsuc n) = omega arith
 
 steps_on : (z : ℤ) (s : ℕ) → reduced (z +ℤ pos s) ≡ (reduced z + s) % 5760
 unfolding reduced
@@ -42,9 +41,17 @@ steps_back (pos n) (suc s) = difference n (suc s) ∙ omega arith
 steps_back (negsuc n) (suc s) = omega arith
 
 -- ---- start_of
-pub first_stands : (rotation : Float) (turn n start : ℕ) → start ≡ (n + 4320) % 5760 → n ≡ turn → turn ≡ turn_of rotation → start ≡ start_of rotation
-unfolding turn_of
-first_stands rotation turn n start s_is n_is e = s_is ∙ (rw (n_is, e) (sym (steps_back (sixteenths_of rotation) 1440)))
+-- a turn is its number
+same_turn : (a b : Turn) → a.sixteenths ≡ b.sixteenths → a ≡ b
+same_turn a b e = λ i. record {
+  sixteenths = e i;
+  reduced = is_prop→PathP (λ j. e j < 5760) (λ j. le_prop) a.reduced b.reduced i;
+}
+
+pub first_stands : (rotation : Float) (turn start : Turn) → start.sixteenths ≡ (turn.sixteenths + 4320) % 5760
+    → turn.sixteenths ≡ turn_of rotation → start ≡ start_of rotation
+unfolding turn_of start_of
+first_stands rotation turn start s_is e = same_turn _ _ (s_is ∙ rw e (sym (steps_back (sixteenths_of rotation) 1440)))
 
 -- ---- turn_at
 few_steps : (k count : ℕ) → k < count → count ≤ 1024 → 11520 * k + count < 5760 * (2 * count)
@@ -98,10 +105,10 @@ pub ruleset turns = (steps_inside, steps_fit)
 -- ---- in document 02's words
 again : (z : ℤ) → reduced (pos (reduced z)) ≡ reduced z
 unfolding reduced
-again z = unreduced (reduced z) (below z)
+again z = unreduced (reduced z) (reduced_below z)
 
 pub points_stand : PointsStand
-unfolding polystar_of turn_from
+unfolding polystar_of turn_from start_of
 points_stand mark count v i h = go (is_reversed mark)
   where
     z : ℤ

@@ -16,6 +16,7 @@ use Rattle.ieee.specs.Limit.{within}
 use Rattle.ieee.specs.Root.{hypot_of}
 use Rattle.point.specs.declared.Point.{Point}
 use Rattle.path.specs.declared.BezierVertex.{BezierVertex}
+use Rattle.sine.specs.declared.Turn.{Turn}
 use Rattle.angle.specs.declared.Direction.{Direction}
 use Rattle.angle.specs.Direction.{direction_of}
 use Rattle.polystar.specs.declared.Ring.{Ring}
@@ -112,7 +113,7 @@ unfolding vertex_toward
 vertex_is cx cy ring toward normal e = rw e
 
 -- ---- point_at
-pub point_is : (star : Polystar) (k turn : ℕ) (ring : Ring) (toward : Direction) (vertex : BezierVertex) → turn ≡ turn_from star.count star.start star.reversed k
+pub point_is : (star : Polystar) (k turn : ℕ) (ring : Ring) (toward : Direction) (vertex : BezierVertex) → turn ≡ turn_from star.count star.start.sixteenths star.reversed k
     → ring ≡ ring_at star k → toward ≡ direction_of turn → vertex ≡ vertex_toward star.x star.y ring toward → vertex ≡ point_at star k
 unfolding point_at
 point_is star k turn ring toward vertex a b c d = rw (d, b, c, a)
@@ -130,7 +131,7 @@ module _ (mark count : ℕ) (v : List Float) (outer : Ring) (t : Bool) (t_is : t
 
 pub ruleset inners = (star_inner, polygon_inner)
 
-module _ (mark count : ℕ) (v : List Float) (D : Drawable count v) (outer inner : Ring) (start : ℕ) where
+module _ (mark count : ℕ) (v : List Float) (D : Drawable count v) (outer inner : Ring) (start : Turn) where
   abbrev star : Polystar
   star = record { x = get_or v 0 nan; y = get_or v 1 nan; count = count; start = start; reversed = is_reversed mark; outer = outer; inner = inner }
 
@@ -139,7 +140,7 @@ module _ (mark count : ℕ) (v : List Float) (D : Drawable count v) (outer inner
   unfolding polystar_of
   polystar_is a b c = rw (b, a, c)
 
-  pub polystar_sound : start < 5760 → Sound star
-  polystar_sound h = record { some = D.some; few = D.few; turned = h }
+  pub polystar_sound : Sound star
+  polystar_sound = record { some = D.some; few = D.few }
 
 pub ruleset whole_stars = (polystar_is, polystar_sound)

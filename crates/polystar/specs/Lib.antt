@@ -1,4 +1,5 @@
 -- Polystars: which numbers make one, and its points.
 pub mod Marks
+pub mod Reduced
 pub mod Polystar
 pub mod Points

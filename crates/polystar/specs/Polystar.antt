@@ -15,9 +15,11 @@ use Rattle.point.specs.declared.Point.{Point}
 use Rattle.command.specs.declared.PathCommand.{PathCommand}
 use Rattle.path.specs.declared.BezierVertex.{BezierVertex}
 use Rattle.path.specs.Path.{vertices_from, bezier_path}
+use Rattle.sine.specs.declared.Turn.{Turn}
 use Rattle.angle.specs.declared.Direction.{Direction}
 use Rattle.angle.specs.Sixteenths.{sixteenths_of, reduced}
 use Rattle.angle.specs.Direction.{direction_of}
+use Rattle.polystar.specs.Reduced.{reduced_below}
 use Rattle.polystar.specs.declared.Ring.{Ring}
 use Rattle.polystar.specs.declared.Polystar.{Polystar}
 
@@ -76,8 +78,10 @@ ring_of mark count radius roundness = record {
 -- ---- a polystar of so many points
 
 -- where the first point stands: the rotation in sixteenths, rounded as in U4, minus 1,440
-abbrev pub start_of : Float → ℕ
-start_of rotation = reduced (sixteenths_of rotation -ℤ pos 1440)
+unfoldable pub start_of : Float → Turn
+start_of rotation =
+    let z = sixteenths_of rotation -ℤ pos 1440 in
+    record { sixteenths = reduced z; reduced = reduced_below z }
 
 -- every point of a polygon is an outer one
 unfoldable pub polystar_of : ℕ → ℕ → List Float → Polystar
@@ -104,7 +108,7 @@ unfoldable pub turn_from : ℕ → ℕ → Bool → ℕ → ℕ
 turn_from count start reversed i = reduced (cond reversed (pos start -ℤ pos (steps_to count i)) (pos start +ℤ pos (steps_to count i)))
 
 abbrev pub turn_at : Polystar → ℕ → ℕ
-turn_at star i = turn_from star.count star.start star.reversed i
+turn_at star i = turn_from star.count star.start.sixteenths star.reversed i
 
 -- `long_flag`: the points of even number are outer ones
 abbrev pub ring_at : Polystar → ℕ → Ring
@@ -151,4 +155,3 @@ pub record Drawable (count : ℕ) (v : List Float) : Type 0 where
 pub record Sound (star : Polystar) : Type 0 where
   pub some : 2 < star.count
   pub few : star.count ≤ 1024
-  pub turned : star.start < 5760

@@ -31,8 +31,8 @@ pub struct Polystar {
     pub y: f32,
     // How many points, inner ones too.
     pub count: usize,
-    // Where the first one stands, in sixteenths of a degree.
-    pub start: usize,
+    // Where the first one stands.
+    pub start: Turn,
     // Whether they go round the other way: direction 3.
     pub reversed: bool,
     // The points of even number and those of odd number. A polygon's are alike.
@@ -155,7 +155,7 @@ fn ring_of(mark: Mark, count: usize, radius: f32, roundness: f32) -> Ring
 // Where the first point stands.
 fn start_of(rotation: f32) -> Turn
     requires { within number_limit rotation ≡ true }
-    ensures { result.sixteenths ≡ spec.start_of rotation }
+    ensures { result ≡ spec.start_of rotation }
 {
     Turn::by_sixteenths(angle::turn(rotation).sixteenths + 4320)
 }
@@ -182,7 +182,7 @@ fn marked(mark: Mark, count: usize, list: &[f32]) -> Polystar
         x: list[0],
         y: list[1],
         count: count,
-        start: start_of(list[7]).sixteenths,
+        start: start_of(list[7]),
         reversed: mark.is_reversed(),
         outer: outer,
         inner: inner_ring(mark, count, list, outer),
@@ -199,15 +199,15 @@ pub fn polystar_of(mark: u32, count: usize, list: &[f32]) -> Polystar
 
 // Where point k stands: so many sixteenths of a degree on from the first, or back for direction 3.
 #[tactic(auto, using(crate::proofs::Turns::turns))]
-fn turn_at(count: usize, start: usize, reversed: bool, k: usize) -> Turn
-    requires { (k < count) × (count ≤ 1024) × (start < 5760) }
-    ensures { result.sixteenths ≡ spec.turn_from count start reversed k }
+fn turn_at(count: usize, start: Turn, reversed: bool, k: usize) -> Turn
+    requires { (k < count) × (count ≤ 1024) }
+    ensures { result.sixteenths ≡ spec.turn_from count start.sixteenths reversed k }
 {
     let steps = (11520 * k + count) / (2 * count);
     if reversed {
-        Turn::by_sixteenths(start + 5760 - steps)
+        Turn::by_sixteenths(start.sixteenths + 5760 - steps)
     } else {
-        Turn::by_sixteenths(start + steps)
+        Turn::by_sixteenths(start.sixteenths + steps)
     }
 }
 

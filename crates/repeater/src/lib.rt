@@ -13,6 +13,7 @@ use point::Point;
 
 // A repeater, sampled. Scales are in per cent, the rotation is in degrees.
 // The mode is the number that C hands over: any number is let pass where only matrices are asked for.
+// What its numbers may be stands in contracts, not in a ghost field: a style is made of any numbers, and `copies` checks it then.
 #[derive(Clone, Copy)]
 pub struct RepeaterStyle {
     pub copies: f32,
