@@ -19,16 +19,16 @@ use Rattle.path.specs.Path.{bezier_segment}
 use Rattle.path.specs.Between.{segments_along}
 use Rattle.path.proofs.Segment.{segment_numbers}
 use Rattle.path.proofs.Along.{along_length, along_at}
-use Rattle.pen.specs.declared.Pen.{Pen}
-use Rattle.pen.specs.Pens.{HasRoom, Wrote}
-use Rattle.pen.proofs.Written.{codes_both, numbers_both}
+use Rattle.sheet.specs.declared.Sheet.{Sheet}
+use Rattle.sheet.specs.Sheets.{HasRoom, Wrote}
+use Rattle.sheet.proofs.Written.{codes_both, numbers_both}
 use Rattle.segment_writer.specs.Followed.{Followed, FollowedRoom}
 
 -- ---- commands one after another, of which the last may be followed or not
 one_command : (c : PathCommand) → length (numbers_of (c ∷ [])) ≡ length (coordinates_of c)
 one_command c = ap length (append-nil (coordinates_of c))
 
-pub followed_none : (p : Pen) → Followed [] p p
+pub followed_none : (p : Sheet) → Followed [] p p
 followed_none p = record {
   same_codes = refl;
   same_numbers = refl;
@@ -39,9 +39,9 @@ followed_none p = record {
   numbers_are = λ more h. refl;
 }
 
-module _ (cs : List PathCommand) (c : PathCommand) (some : 2 ≤ length (coordinates_of c)) (p q : Pen) (F : Followed cs p q) where
+module _ (cs : List PathCommand) (c : PathCommand) (some : 2 ≤ length (coordinates_of c)) (p q : Sheet) (F : Followed cs p q) where
   -- a command that the list is followed by has numbers enough
-  followed_more : (r : Pen) → Followed (c ∷ []) q r → Followed (cs ++ c ∷ []) p r
+  followed_more : (r : Sheet) → Followed (c ∷ []) q r → Followed (cs ++ c ∷ []) p r
   followed_more r G = record {
     same_codes = G.same_codes ∙ F.same_codes;
     same_numbers = G.same_numbers ∙ F.same_numbers;
@@ -57,7 +57,7 @@ module _ (cs : List PathCommand) (c : PathCommand) (some : 2 ≤ length (coordin
         ∙ ap (sets p.numbers.now p.at.numbers) (sym (append_assoc (numbers_of cs) (numbers_of (c ∷ [])) more) ∙ ap (λ (l : List Float). l ++ more) (sym (numbers_append cs (c ∷ []))));
   }
 
-  followed_last : (r : Pen) → Wrote (c ∷ []) q r → Wrote (cs ++ c ∷ []) p r
+  followed_last : (r : Sheet) → Wrote (c ∷ []) q r → Wrote (cs ++ c ∷ []) p r
   followed_last r W = record {
     same_codes = W.same_codes ∙ F.same_codes;
     same_numbers = W.same_numbers ∙ F.same_numbers;
@@ -89,7 +89,7 @@ module _ (cs : List PathCommand) (c : PathCommand) (some : 2 ≤ length (coordin
 
 -- ---- from vertex to vertex
 -- the segments up to vertex k - 1 are written, and that vertex is carried over
-pub record Carried (vertex : ℕ → BezierVertex) (count : ℕ) (p q : Pen) (a : BezierVertex) (k : ℕ) : Type 0 where
+pub record Carried (vertex : ℕ → BezierVertex) (count : ℕ) (p q : Sheet) (a : BezierVertex) (k : ℕ) : Type 0 where
   pub written : Followed (take (k - 1) (segments_along vertex count)) p q
   pub here : a ≡ vertex (k - 1)
   pub some : 0 < k
@@ -105,10 +105,10 @@ module _ (vertex : ℕ → BezierVertex) (count : ℕ) where
       rw e at (take_more ds (k - 1) Close (omega (arith, along_length vertex count)))
       ∙ ap (λ (c : PathCommand). take (k - 1) ds ++ c ∷ []) (rw e at (along_at vertex count (k - 1) (omega arith)))
 
-  pub carried_start : 1 < count → (p : Pen) (first : BezierVertex) → first ≡ vertex 0 → Carried vertex count p p first 1
+  pub carried_start : 1 < count → (p : Sheet) (first : BezierVertex) → first ≡ vertex 0 → Carried vertex count p p first 1
   carried_start several p first e = record { written = followed_none p; here = e; some = omega arith; inside = several }
 
-  module _ (p q : Pen) (a : BezierVertex) (k : ℕ) (C : Carried vertex count p q a k) (b : BezierVertex) (b_is : b ≡ vertex k) where
+  module _ (p q : Sheet) (a : BezierVertex) (k : ℕ) (C : Carried vertex count p q a k) (b : BezierVertex) (b_is : b ≡ vertex k) where
     c_is : bezier_segment (vertex (k - 1)) (vertex k) ≡ bezier_segment a b
     c_is = ap₂ bezier_segment (sym C.here) (sym b_is)
 
@@ -134,7 +134,7 @@ module _ (vertex : ℕ → BezierVertex) (count : ℕ) where
     pub carried_room : k < count - 1 → HasRoom ds p → FollowedRoom (bezier_segment a b) q
     carried_room h room = followed_room (take (k - 1) ds) (bezier_segment a b) two p q C.written ds (drop k ds) all_is room (two_more h)
 
-    pub carried_on : k < count - 1 → (r : Pen) → Followed (bezier_segment a b ∷ []) q r → Carried vertex count p r b (k + 1)
+    pub carried_on : k < count - 1 → (r : Sheet) → Followed (bezier_segment a b ∷ []) q r → Carried vertex count p r b (k + 1)
     carried_on h r F =
         let same : k + 1 - 1 ≡ k = omega arith in
         record {
@@ -149,7 +149,7 @@ module _ (vertex : ℕ → BezierVertex) (count : ℕ) where
       pub last_room : HasRoom ds p → HasRoom (c ∷ []) q
       last_room room = rw is (last_fits (take (k - 1) ds) (bezier_segment a b) two p q C.written ds (drop k ds) all_is room)
 
-      pub last_wrote : (r : Pen) → Wrote (c ∷ []) q r → Wrote ds p r
+      pub last_wrote : (r : Sheet) → Wrote (c ∷ []) q r → Wrote ds p r
       last_wrote r W =
           let e : ds ≡ take (k - 1) ds ++ bezier_segment a b ∷ [] = sym (take_all k ds (omega (arith, along_length vertex count))) ∙ part_is in
           rw e (followed_last (take (k - 1) ds) (bezier_segment a b) two p q C.written r (rw is at W))

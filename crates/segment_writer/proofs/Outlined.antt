@@ -13,9 +13,9 @@ use Rattle.path.specs.declared.BezierVertex.{BezierVertex}
 use Rattle.path.specs.Path.{vertex_at, bezier_segment, path_commands}
 use Rattle.path.specs.Between.{path_along, segments_along}
 use Rattle.path.proofs.Along.{along_one, along_open, along_closed, commands_along}
-use Rattle.pen.specs.declared.Pen.{Pen}
-use Rattle.pen.specs.Pens.{HasRoom, Wrote}
-use Rattle.pen.proofs.Written.{room_first, room_next, wrote_both}
+use Rattle.sheet.specs.declared.Sheet.{Sheet}
+use Rattle.sheet.specs.Sheets.{HasRoom, Wrote}
+use Rattle.sheet.proofs.Written.{room_first, room_next, wrote_both}
 
 pub more_than_one : (n m : ℕ) → m ≡ n → 0 < n → (m ≡ 1 → ⊥) → 1 < n
 more_than_one n m e some one = omega arith
@@ -37,7 +37,7 @@ module _ (vertex : ℕ → BezierVertex) (count : ℕ) (first : BezierVertex) (f
       → path_along true vertex count ≡ (begin ∷ segments) ++ bezier_segment last first ∷ Close ∷ []
   round last is h = rw (first_is, is) (along_closed vertex count h)
 
-  module _ (closed : Bool) (p q : Pen) (room : HasRoom (path_along closed vertex count) p) where
+  module _ (closed : Bool) (p q : Sheet) (room : HasRoom (path_along closed vertex count) p) where
     pub begin_room : 0 < count → HasRoom (begin ∷ []) p
     begin_room some = go closed (eqb count 1) refl room
       where
@@ -54,7 +54,7 @@ module _ (vertex : ℕ → BezierVertex) (count : ℕ) (first : BezierVertex) (f
       pub line_room : count ≡ 1 → HasRoom (Line first.x first.y ∷ []) q
       line_room e = room_next (path_along closed vertex count) (begin ∷ []) (Line first.x first.y ∷ []) (one closed e) p q room w
 
-      pub line_wrote : count ≡ 1 → (r : Pen) → Wrote (Line first.x first.y ∷ []) q r → Wrote (path_along closed vertex count) p r
+      pub line_wrote : count ≡ 1 → (r : Sheet) → Wrote (Line first.x first.y ∷ []) q r → Wrote (path_along closed vertex count) p r
       line_wrote e r v = wrote_both (path_along closed vertex count) (begin ∷ []) (Line first.x first.y ∷ []) (one closed e) p q r w v
 
       module _ (several : 1 < count) where
@@ -68,7 +68,7 @@ module _ (vertex : ℕ → BezierVertex) (count : ℕ) (first : BezierVertex) (f
                 room_first (segments ++ back) segments back refl q q
                 (room_next (path_along true vertex count) (begin ∷ []) (segments ++ back) (round (vertex (count - 1)) refl several) p q h w)
 
-        module _ (r : Pen) (v : Wrote segments q r) where
+        module _ (r : Sheet) (v : Wrote segments q r) where
           both : Wrote (begin ∷ segments) p r
           both = wrote_both (begin ∷ segments) (begin ∷ []) segments refl p q r w v
 
@@ -86,11 +86,11 @@ module _ (vertex : ℕ → BezierVertex) (count : ℕ) (first : BezierVertex) (f
             pub back_room : HasRoom (c ∷ []) r
             back_room = room_first (c ∷ Close ∷ []) (c ∷ []) (Close ∷ []) refl r r closing_room
 
-            module _ (s : Pen) (x : Wrote (c ∷ []) r s) where
+            module _ (s : Sheet) (x : Wrote (c ∷ []) r s) where
               pub close_room : HasRoom (Close ∷ []) s
               close_room = room_next (c ∷ Close ∷ []) (c ∷ []) (Close ∷ []) refl r s closing_room x
 
-              pub closed_wrote : (t : Pen) → Wrote (Close ∷ []) s t → Wrote (path_along closed vertex count) p t
+              pub closed_wrote : (t : Sheet) → Wrote (Close ∷ []) s t → Wrote (path_along closed vertex count) p t
               closed_wrote t y =
                   wrote_both (path_along closed vertex count) (begin ∷ segments) (c ∷ Close ∷ []) is p r t both
                   (wrote_both (c ∷ Close ∷ []) (c ∷ []) (Close ∷ []) refl r s t x y)

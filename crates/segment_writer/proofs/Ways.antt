@@ -13,7 +13,7 @@ use Rattle.command.proofs.Buffers.{sets_append}
 use Rattle.path.specs.declared.BezierVertex.{BezierVertex}
 use Rattle.path.specs.Path.{out_x, out_y, in_x, in_y, is_line, bezier_segment}
 use Rattle.path.proofs.Segment.{line_or_cubic, segment_is, segment_numbers, place_after}
-use Rattle.pen.specs.declared.Pen.{Pen}
+use Rattle.sheet.specs.declared.Sheet.{Sheet}
 use Rattle.segment_writer.specs.Followed.{Followed}
 
 -- ---- what is stored over
@@ -69,7 +69,7 @@ module _ (a b : BezierVertex) (t : Bool) (t_is : t ≡ is_line a b) where
         go false = sym (sets_append four (pair ++ more) l at ∙ sets_append pair more (sets l at four) (at + 4))
 
     -- the code and the numbers as they are put
-    pub followed_is : (p q : Pen) (code : ℕ) (l' l'' : List Float) (r : ℕ) → code ≡ cond t 1 2 → at ≡ p.at.numbers
+    pub followed_is : (p q : Sheet) (code : ℕ) (l' l'' : List Float) (r : ℕ) → code ≡ cond t 1 2 → at ≡ p.at.numbers
         → l' ≡ sets p.numbers.now at (out_x a ∷ out_y a ∷ in_x b ∷ in_y b ∷ []) → l'' ≡ sets l' end (b.x ∷ b.y ∷ []) → r ≡ end + 2
         → q.codes.ghost_name ≡ p.codes.ghost_name → q.numbers.ghost_name ≡ p.numbers.ghost_name
         → q.at.codes ≡ p.at.codes + 1 → q.at.numbers ≡ r → q.codes.now ≡ set p.codes.now p.at.codes code → q.numbers.now ≡ l''

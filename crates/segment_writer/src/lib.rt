@@ -5,12 +5,12 @@
 ghost use Rattle.std.specs.Prelude.{◌≡◌, cond, [], ◌∷◌, ◌-◌, ◌<◌};
 ghost use Rattle.path.specs.Path.{bezier_segment, path_commands, Sound};
 ghost use Rattle.path.specs.Between.{path_along, segments_along};
-ghost use Rattle.pen.specs.Pens.{HasRoom, Wrote};
+ghost use Rattle.sheet.specs.Sheets.{HasRoom, Wrote};
 ghost use Rattle.segment_writer.specs.Followed.{FollowedRoom, Followed};
 
 use command::{PathCommand, Size};
 use path::{BezierVertex, Outline, Vertices};
-use pen::Pen;
+use sheet::Sheet;
 
 // The code of a segment.
 fn segment_code(line: bool) -> u8
@@ -21,69 +21,69 @@ fn segment_code(line: bool) -> u8
 
 // Writes a segment which two numbers or more are to follow, with no branch on what it is: its control points, and then its end,
 // which of a line stands in the place of the first. The second is left after it, where what follows will stand.
-fn put_followed(a: BezierVertex, b: BezierVertex, pen: &mut Pen)
-    requires { FollowedRoom (bezier_segment a b) pen.old }
-    ensures { Followed (bezier_segment a b ∷ []) pen.old pen.new }
+fn put_followed(a: BezierVertex, b: BezierVertex, sheet: &mut Sheet)
+    requires { FollowedRoom (bezier_segment a b) sheet.old }
+    ensures { Followed (bezier_segment a b ∷ []) sheet.old sheet.new }
 {
     let line = a.is_line_to(b);
-    let at = pen.at.numbers;
+    let at = sheet.at.numbers;
     let ahead = [a.x + a.ox, a.y + a.oy, b.x + b.ix, b.y + b.iy];
-    command::put(pen.numbers, at, ahead);
-    pen.codes[pen.at.codes] = segment_code(line);
-    pen.at = Size {
-        codes: pen.at.codes + 1,
-        numbers: command::put(pen.numbers, path::end_place(line, at), [b.x, b.y]),
+    command::put(sheet.numbers, at, ahead);
+    sheet.codes[sheet.at.codes] = segment_code(line);
+    sheet.at = Size {
+        codes: sheet.at.codes + 1,
+        numbers: command::put(sheet.numbers, path::end_place(line, at), [b.x, b.y]),
     };
 }
 
 // Writes the segments between the vertices, of which the first is known, and gives the last. After the last segment nothing may be
 // left, so that one is put as it is.
-fn write_segments<O: Outline>(outline: &O, first: BezierVertex, pen: &mut Pen) -> BezierVertex
+fn write_segments<O: Outline>(outline: &O, first: BezierVertex, sheet: &mut Sheet) -> BezierVertex
     requires several { 1 < O.count outline.now }
     requires first_is { first ≡ O.vertex outline.now 0 }
-    requires room { HasRoom (segments_along (O.vertex outline.now) (O.count outline.now)) pen.old }
+    requires room { HasRoom (segments_along (O.vertex outline.now) (O.count outline.now)) sheet.old }
     ensures last { result ≡ O.vertex outline.now (O.count outline.now - 1) }
-    ensures wrote { Wrote (segments_along (O.vertex outline.now) (O.count outline.now)) pen.old pen.new }
+    ensures wrote { Wrote (segments_along (O.vertex outline.now) (O.count outline.now)) sheet.old sheet.new }
 {
     let last = outline.count() - 1;
     let mut a = first;
     for k in 1..last {
         let b = outline.vertex(k);
-        put_followed(a, b, pen);
+        put_followed(a, b, sheet);
         a = b;
     }
     let b = outline.vertex(last);
-    pen.put(a.segment_to(b));
+    sheet.put(a.segment_to(b));
     b
 }
 
 // Writes the path of an outline.
-pub fn write_outline<O: Outline>(closed: bool, outline: &O, pen: &mut Pen)
-    requires { HasRoom (path_along closed (O.vertex outline.now) (O.count outline.now)) pen.old }
-    ensures { Wrote (path_along closed (O.vertex outline.now) (O.count outline.now)) pen.old pen.new }
+pub fn write_outline<O: Outline>(closed: bool, outline: &O, sheet: &mut Sheet)
+    requires { HasRoom (path_along closed (O.vertex outline.now) (O.count outline.now)) sheet.old }
+    ensures { Wrote (path_along closed (O.vertex outline.now) (O.count outline.now)) sheet.old sheet.new }
 {
     let first = outline.vertex(0);
-    pen.put(PathCommand::Move(first.x, first.y));
+    sheet.put(PathCommand::Move(first.x, first.y));
     if outline.count() == 1 {
-        pen.put(PathCommand::Line(first.x, first.y));
+        sheet.put(PathCommand::Line(first.x, first.y));
         return;
     }
-    let last = write_segments(outline, first, pen);
+    let last = write_segments(outline, first, sheet);
     if closed {
-        pen.put(last.segment_to(first));
-        pen.put(PathCommand::Close);
+        sheet.put(last.segment_to(first));
+        sheet.put(PathCommand::Close);
     }
 }
 
 // Writes the path of the first `count` vertices.
-pub fn write_path(closed: u32, vertices: &[f32], count: usize, pen: &mut Pen)
+pub fn write_path(closed: u32, vertices: &[f32], count: usize, sheet: &mut Sheet)
     requires sound { Sound vertices.now count }
-    requires room { HasRoom (path_commands closed vertices.now count) pen.old }
-    ensures { Wrote (path_commands closed vertices.now count) pen.old pen.new }
+    requires room { HasRoom (path_commands closed vertices.now count) sheet.old }
+    ensures { Wrote (path_commands closed vertices.now count) sheet.old sheet.new }
 {
     let outline = Vertices {
         numbers: vertices,
         count: count,
     };
-    write_outline(closed == 1, &outline, pen);
+    write_outline(closed == 1, &outline, sheet);
 }

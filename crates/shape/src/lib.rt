@@ -6,12 +6,12 @@ ghost use Rattle.std.proofs.lemmas.List.Edits.{sets};
 ghost use Rattle.command.specs.Commands.{codes_of, numbers_of};
 ghost use Rattle.command.specs.Outcomes.{number_of};
 ghost use Rattle.command.specs.Buffers.{fitted, in_buffers, codes_told, numbers_told, FilledBoth, size_of, pair_of};
-ghost use Rattle.pen.specs.Pens.{HasRoom, Wrote};
+ghost use Rattle.sheet.specs.Sheets.{HasRoom, Wrote};
 ghost use Rattle.shape.specs.declared.Shape.TheVariants.{Path, Rect, Ellipse};
 ghost use Rattle.shape.specs.Shape.{bounds_of, shape_commands, Fit, fit_prop};
 
 use command::{Outcome, Refusal, Size};
-use pen::Pen;
+use sheet::Sheet;
 use rect::Bounds;
 
 // What is to be drawn, and what decides how much of it there is. Its numbers stand in the list of a `Drawing`.
@@ -56,28 +56,28 @@ fn bounds_of(list: &[f32]) -> Bounds
 }
 
 // Writes a rectangle.
-fn write_rect(radius: f32, list: &[f32], pen: &mut Pen)
+fn write_rect(radius: f32, list: &[f32], sheet: &mut Sheet)
     requires there { 4 ≤ length list.now }
-    requires room { HasRoom (shape_commands (Rect radius) list.now) pen.old }
-    ensures { Wrote (shape_commands (Rect radius) list.now) pen.old pen.new }
+    requires room { HasRoom (shape_commands (Rect radius) list.now) sheet.old }
+    ensures { Wrote (shape_commands (Rect radius) list.now) sheet.old sheet.new }
 {
     let bounds = bounds_of(list);
     if rect::is_plain(radius) {
-        pen.put_all(&rect::plain_commands(bounds));
+        sheet.put_all(&rect::plain_commands(bounds));
     } else {
-        pen.put_all(&rect::round_commands(bounds, radius));
+        sheet.put_all(&rect::round_commands(bounds, radius));
     }
 }
 
 // Writes an ellipse.
-fn write_ellipse(list: &[f32], pen: &mut Pen)
+fn write_ellipse(list: &[f32], sheet: &mut Sheet)
     requires there { 4 ≤ length list.now }
-    requires room { HasRoom (shape_commands Ellipse list.now) pen.old }
-    ensures { Wrote (shape_commands Ellipse list.now) pen.old pen.new }
+    requires room { HasRoom (shape_commands Ellipse list.now) sheet.old }
+    ensures { Wrote (shape_commands Ellipse list.now) sheet.old sheet.new }
 {
     let bounds = bounds_of(list);
     let commands = ellipse::ellipse_commands(bounds, list[0], list[1], list[2], list[3]);
-    pen.put_all(&commands);
+    sheet.put_all(&commands);
 }
 
 // Whether two buffers of these lengths have so many places.
@@ -109,15 +109,15 @@ impl<'a> Drawing<'a> {
         }
     }
 
-    // Writes it with a pen.
-    fn put(&self, pen: &mut Pen)
-        requires { HasRoom (commands_of self.now) pen.old }
-        ensures { Wrote (commands_of self.now) pen.old pen.new }
+    // Writes it with a sheet.
+    fn put(&self, sheet: &mut Sheet)
+        requires { HasRoom (commands_of self.now) sheet.old }
+        ensures { Wrote (commands_of self.now) sheet.old sheet.new }
     {
         match self.shape {
-            Shape::Path(closed, count) => segment_writer::write_path(closed, self.list, count, pen),
-            Shape::Rect(radius) => write_rect(radius, self.list, pen),
-            Shape::Ellipse => write_ellipse(self.list, pen),
+            Shape::Path(closed, count) => segment_writer::write_path(closed, self.list, count, sheet),
+            Shape::Rect(radius) => write_rect(radius, self.list, sheet),
+            Shape::Ellipse => write_ellipse(self.list, sheet),
         }
     }
 
@@ -134,9 +134,9 @@ impl<'a> Drawing<'a> {
             codes: i,
             numbers: j,
         };
-        let mut pen = Pen { codes, numbers, at };
-        self.put(&mut pen);
-        pen.at
+        let mut sheet = Sheet { codes, numbers, at };
+        self.put(&mut sheet);
+        sheet.at
     }
 
     // Whether two buffers of these lengths are enough for any path of so many vertices, so that this one need not be counted.

@@ -3,8 +3,8 @@ use mathlib.Core.Path.{◌≡◌, refl}
 use mathlib.Core.Bool.{true}
 use native.Mathlib.Omega.{arith}
 use Rattle.path.specs.Between.{path_along}
-use Rattle.pen.specs.declared.Pen.{Pen}
-use Rattle.pen.specs.Pens.{HasRoom, Wrote}
+use Rattle.sheet.specs.declared.Sheet.{Sheet}
+use Rattle.sheet.specs.Sheets.{HasRoom, Wrote}
 use Rattle.segments.specs.Leaves.{Passed}
 use Rattle.polystar.specs.declared.Polystar.{Polystar}
 use Rattle.polystar.specs.Polystar.{point_at, polystar_path, Sound}

@@ -3,12 +3,12 @@
 
 ghost use Rattle.std.specs.Prelude.{◌≡◌, length};
 ghost use Rattle.command.specs.Commands.{numbers_of};
-ghost use Rattle.pen.specs.Pens.{HasRoom, Wrote};
+ghost use Rattle.sheet.specs.Sheets.{HasRoom, Wrote};
 ghost use Rattle.polystar.specs.Polystar.{point_at, polystar_path, Sound};
 ghost use Rattle.star_path.specs.Points.{some_points};
 
 use path::{BezierVertex, Outline};
-use pen::Pen;
+use sheet::Sheet;
 use polystar::Polystar;
 
 // The points of a polystar, as the vertices of its path.
@@ -37,12 +37,12 @@ impl Outline for Points {
 }
 
 // Writes the path.
-pub fn write_star(star: Polystar, pen: &mut Pen)
+pub fn write_star(star: Polystar, sheet: &mut Sheet)
     requires sound { Sound star }
-    requires room { HasRoom (polystar_path star) pen.old }
-    ensures { Wrote (polystar_path star) pen.old pen.new }
+    requires room { HasRoom (polystar_path star) sheet.old }
+    ensures { Wrote (polystar_path star) sheet.old sheet.new }
 {
-    segment_writer::write_outline(true, &Points { star }, pen);
+    segment_writer::write_outline(true, &Points { star }, sheet);
 }
 
 // How many numbers the path has.

@@ -10,10 +10,10 @@ put-requires c = (lit< tt, four_room _ _ _ c.is_line_to-line.ensures _ _ c.requi
 pub put-requires-2 : goal.put-requires-2
 put-requires-2 c = (
   lit< tt,
-  end_room _ _ _ c.is_line_to-line.ensures _ _ c.end_place.ensures c.args.pen.now.numbers.now _ c.put.ensures.1 c.requires.numbers_fit,
+  end_room _ _ _ c.is_line_to-line.ensures _ _ c.end_place.ensures c.args.sheet.now.numbers.now _ c.put.ensures.1 c.requires.numbers_fit,
 )
 
 pub returns : goal.returns
 returns c =
-    followed_is _ _ _ c.is_line_to-line.ensures _ _ c.end_place.ensures c.args.pen.now _ _ _ _ _ c.segment_code.ensures refl c.put.ensures.1
+    followed_is _ _ _ c.is_line_to-line.ensures _ _ c.end_place.ensures c.args.sheet.now _ _ _ _ _ c.segment_code.ensures refl c.put.ensures.1
     c.put-2.ensures.1 c.put-2.ensures.0 refl refl refl refl refl refl

@@ -6,7 +6,7 @@ use Rattle.segment_writer.proofs.write_outline.Goals as goal
 pub put-requires : goal.put-requires
 put-requires g c =
     let O = c.args.outline.now in
-    begin_room (g.O.Outline.vertex O) (g.O.Outline.count O) _ c.vertex-first.ensures c.args.closed _ c.args.pen.now c.requires (g.met.O.Outline.some O)
+    begin_room (g.O.Outline.vertex O) (g.O.Outline.count O) _ c.vertex-first.ensures c.args.closed _ c.args.sheet.now c.requires (g.met.O.Outline.some O)
 
 pub put-requires-then-count-eq1 : goal.put-requires-then-count-eq1
 put-requires-then-count-eq1 g c = line_room _ _ _ c.vertex-first.ensures _ _ _ c.requires c.put.ensures (sym c.count.ensures ∙ c.if-count-eq1.true)

@@ -1,6 +1,6 @@
 -- `segment_writer::write_path` meets its contract. Assumes nothing.
 use Rattle.path.proofs.Along.{commands_along}
-use Rattle.pen.proofs.Written.{same_room, same_wrote}
+use Rattle.sheet.proofs.Written.{same_room, same_wrote}
 use Rattle.segment_writer.proofs.write_path.Goals as goal
 
 pub write_outline-requires : goal.write_outline-requires

@@ -1,6 +1,6 @@
 -- `shape::write_ellipse` meets its contract. Assumes nothing.
 use mathlib.Core.Path.{sym, refl, ◌∙◌}
-use Rattle.pen.proofs.Written.{same_room, same_wrote}
+use Rattle.sheet.proofs.Written.{same_room, same_wrote}
 use Rattle.shape.proofs.Ways.{ellipse_is}
 use Rattle.shape.proofs.write_ellipse.Goals as goal
 

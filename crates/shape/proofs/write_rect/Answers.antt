@@ -1,6 +1,6 @@
 -- `shape::write_rect` meets its contract. Assumes nothing.
 use mathlib.Core.Path.{sym, ◌∙◌}
-use Rattle.pen.proofs.Written.{same_room, same_wrote}
+use Rattle.sheet.proofs.Written.{same_room, same_wrote}
 use Rattle.shape.proofs.Ways.{plain_is, round_is}
 use Rattle.shape.proofs.write_rect.Goals as goal
 

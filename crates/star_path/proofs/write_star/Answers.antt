@@ -1,6 +1,6 @@
 -- `star_path::write_star` meets its contract. Assumes nothing.
 use mathlib.Core.Path.{sym}
-use Rattle.pen.proofs.Written.{same_room, same_wrote}
+use Rattle.sheet.proofs.Written.{same_room, same_wrote}
 use Rattle.star_path.proofs.Along.{path_is}
 use Rattle.star_path.proofs.write_star.Goals as goal
 

@@ -1,5 +1,5 @@
 -- `shape::Drawing::put` meets its contract. Assumes nothing.
-use Rattle.pen.proofs.Written.{same_room, same_wrote}
+use Rattle.sheet.proofs.Written.{same_room, same_wrote}
 use Rattle.shape.proofs.Ways.{path_arm_is}
 use Rattle.shape.proofs.Drawing.put.Goals as goal
 

@@ -1,4 +1,4 @@
--- Laws of what a pen writes: one list of commands after another, in room for both. Assumes nothing.
+-- Laws of what a sheet writes: one list of commands after another, in room for both. Assumes nothing.
 use mathlib.Core.Path.{◌≡◌, refl, sym, ◌∙◌}
 use mathlib.Core.List.{List, [], ◌∷◌, ◌++◌}
 use Prim.Native.Nat.{ℕ, ◌+◌, ◌≤◌, ◌<◌}
@@ -11,8 +11,8 @@ use Rattle.command.specs.declared.PathCommand.{PathCommand}
 use Rattle.command.specs.Commands.{codes_of, numbers_of}
 use Rattle.command.proofs.Buffers.{sets_append}
 use Rattle.command.proofs.Lists.{codes_append, numbers_append}
-use Rattle.pen.specs.declared.Pen.{Pen}
-use Rattle.pen.specs.Pens.{HasRoom, Wrote}
+use Rattle.sheet.specs.declared.Sheet.{Sheet}
+use Rattle.sheet.specs.Sheets.{HasRoom, Wrote}
 
 pub codes_both : (cs ds : List PathCommand) → length (codes_of (cs ++ ds)) ≡ length (codes_of cs) + length (codes_of ds)
 codes_both cs ds = rw (codes_append, length-append) refl
@@ -20,7 +20,7 @@ codes_both cs ds = rw (codes_append, length-append) refl
 pub numbers_both : (cs ds : List PathCommand) → length (numbers_of (cs ++ ds)) ≡ length (numbers_of cs) + length (numbers_of ds)
 numbers_both cs ds = rw (numbers_append, length-append) refl
 
-module _ (p : Pen) where
+module _ (p : Sheet) where
   pub wrote_none : Wrote [] p p
   wrote_none = record {
     same_codes = refl;
@@ -31,7 +31,7 @@ module _ (p : Pen) where
     numbers_are = refl;
   }
 
-module _ (all cs ds : List PathCommand) (is : all ≡ cs ++ ds) (p q : Pen) where
+module _ (all cs ds : List PathCommand) (is : all ≡ cs ++ ds) (p q : Sheet) where
   pub room_first : HasRoom all p → HasRoom cs p
   room_first h = let r = rw is at h in record {
     codes_fit = omega (arith, codes_both cs ds, r.codes_fit);
@@ -44,7 +44,7 @@ module _ (all cs ds : List PathCommand) (is : all ≡ cs ++ ds) (p q : Pen) wher
     numbers_fit = rw (w.numbers_are, length-sets p.numbers.now p.at.numbers (numbers_of cs)) (omega (arith, numbers_both cs ds, r.numbers_fit, w.numbers_at));
   }
 
-  pub wrote_both : (r : Pen) → Wrote cs p q → Wrote ds q r → Wrote all p r
+  pub wrote_both : (r : Sheet) → Wrote cs p q → Wrote ds q r → Wrote all p r
   wrote_both r v w = rw is (record {
     same_codes = w.same_codes ∙ v.same_codes;
     same_numbers = w.same_numbers ∙ v.same_numbers;
@@ -55,22 +55,22 @@ module _ (all cs ds : List PathCommand) (is : all ≡ cs ++ ds) (p q : Pen) wher
   })
 
 -- ---- a list of commands by another name
-module _ (cs ds : List PathCommand) (is : cs ≡ ds) (p : Pen) where
+module _ (cs ds : List PathCommand) (is : cs ≡ ds) (p : Sheet) where
   pub same_room : HasRoom cs p → HasRoom ds p
   same_room h = rw is at h
 
-  pub same_wrote : (q : Pen) → Wrote ds p q → Wrote cs p q
+  pub same_wrote : (q : Sheet) → Wrote ds p q → Wrote cs p q
   same_wrote q w = rw is w
 
 -- ---- commands one after another, of which k are written
-module _ (cs : List PathCommand) (k : ℕ) (p q : Pen) (w : Wrote (take k cs) p q) where
+module _ (cs : List PathCommand) (k : ℕ) (p q : Sheet) (w : Wrote (take k cs) p q) where
   module _ (d : PathCommand) (h : k < length cs) where
     pub room_more : HasRoom cs p → HasRoom (get_or cs k d ∷ []) q
     room_more room =
         room_next (take (k + 1) cs) (take k cs) (get_or cs k d ∷ []) (take_more cs k d h) p q
         (room_first cs (take (k + 1) cs) (drop (k + 1) cs) (sym (take-append-drop (k + 1) cs)) p p room) w
 
-    pub wrote_more : (r : Pen) → Wrote (get_or cs k d ∷ []) q r → Wrote (take (k + 1) cs) p r
+    pub wrote_more : (r : Sheet) → Wrote (get_or cs k d ∷ []) q r → Wrote (take (k + 1) cs) p r
     wrote_more r v = wrote_both (take (k + 1) cs) (take k cs) (get_or cs k d ∷ []) (take_more cs k d h) p q r w v
 
   pub wrote_all : length cs ≤ k → Wrote cs p q

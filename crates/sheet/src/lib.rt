@@ -2,19 +2,19 @@
 #![tactic(auto)]
 
 ghost use Rattle.std.specs.Prelude.{[], ◌∷◌};
-ghost use Rattle.pen.specs.Pens.{HasRoom, Wrote};
+ghost use Rattle.sheet.specs.Sheets.{HasRoom, Wrote};
 
 use command::{PathCommand, Size};
 
 // The buffer of the codes and that of the numbers, and how much of both is filled.
 #[derive(Drop)]
-pub struct Pen<'a> {
+pub struct Sheet<'a> {
     pub codes: &'a mut [u8],
     pub numbers: &'a mut [f32],
     pub at: Size,
 }
 
-impl<'a> Pen<'a> {
+impl<'a> Sheet<'a> {
     // Writes a command.
     pub fn put(&mut self, command: PathCommand)
         requires { HasRoom (command ∷ []) self.old }

@@ -1,7 +1,7 @@
--- `pen::Pen::put_all` meets its contract. Assumes nothing.
+-- `sheet::Sheet::put_all` meets its contract. Assumes nothing.
 use Rattle.std.proofs.Common.{rules}
-use Rattle.pen.proofs.Written.{runs, room_more, wrote_more}
-use Rattle.pen.proofs.Pen.put_all.Goals as goal
+use Rattle.sheet.proofs.Written.{runs, room_more, wrote_more}
+use Rattle.sheet.proofs.Sheet.put_all.Goals as goal
 
 pub loop-command-init : goal.loop-command-init
 loop-command-init c = search (rules, runs)

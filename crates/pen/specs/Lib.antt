@@ -1,2 +1,0 @@
--- What a pen has room for, and what it writes.
-pub mod Pens
