@@ -11,8 +11,8 @@ ghost use Rattle.shape.specs.declared.Shape.TheVariants.{Path, Rect, Ellipse};
 ghost use Rattle.shape.specs.Shape.{bounds_of, shape_commands, Fit, fit_prop};
 
 use command::{Outcome, Refusal, Size};
-use sheet::Sheet;
 use rect::Bounds;
+use sheet::Sheet;
 
 // What is to be drawn, and what decides how much of it there is. Its numbers stand in the list of a `Drawing`.
 #[derive(Clone, Copy)]
@@ -115,7 +115,9 @@ impl<'a> Drawing<'a> {
         ensures { Wrote (commands_of self.now) sheet.old sheet.new }
     {
         match self.shape {
-            Shape::Path(closed, count) => segment_writer::write_path(closed, self.list, count, sheet),
+            Shape::Path(closed, count) => segment_writer::write_path(
+                closed, self.list, count, sheet,
+            ),
             Shape::Rect(radius) => write_rect(radius, self.list, sheet),
             Shape::Ellipse => write_ellipse(self.list, sheet),
         }

@@ -8,8 +8,8 @@ ghost use Rattle.polystar.specs.Polystar.{point_at, polystar_path, Sound};
 ghost use Rattle.star_path.specs.Points.{some_points};
 
 use path::{BezierVertex, Outline};
-use sheet::Sheet;
 use polystar::Polystar;
+use sheet::Sheet;
 
 // The points of a polystar, as the vertices of its path.
 #[derive(Clone, Copy)]
