@@ -102,7 +102,7 @@ POINTS = [
     ("1 numbers for kinds", lambda root: lines_where(root, r"^\s*(pub )?(kind|hidden|mark|mode|closed): (u32|u8),$|[( ](kind|mark|mode|closed): (u32|u8)[,)]|fn \w*number\(")),
     ("2 twins", twins),
     ("3 loops that count by hand", lambda root: lines_where(root, r"^\s*while ")),
-    ("4 tests nested in place of && and ||", lambda root: lines_where(root, r"^\s*(\} else \{ )?(if .* \{ )?(true|false)( \}.*)?$|\{ (true|false) \} else|else \{ (true|false) \}")),
+    ("4 tests nested in one another", lambda root: lines_where(root, r"^\s*(\} else \{ )?(if .* \{ )?(true|false)( \}.*)?$|\{ (true|false) \} else|else \{ (true|false) \}")),
     ("4 numbers and text by hand", lambda root: lines_where(root, r"fn (\w*number|code|size|wide|low_byte|nan|digit|mark_of|range_count|print\w*)\b")),
     ("5 facts in three contracts or more", facts),
     ("5 parameters that travel together", travellers),
