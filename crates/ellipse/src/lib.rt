@@ -2,24 +2,29 @@
 #![tactic(auto)]
 
 ghost use Rattle.std.specs.Prelude.{◌≡◌};
-ghost use Rattle.ellipse.specs.Ellipse.{tangent_on, ellipse_in};
+ghost use Rattle.ellipse.specs.Ellipse.{tangent_on, ellipse_path};
 
 use command::PathCommand;
-use rect::Bounds;
+use point::Point;
+use rect::Frame;
 
 // How far the control points stand from the centre's coordinate, on the axis with this side.
+#[tactic(auto, unfolding(crate::specs::Ellipse::tangent_on))]
 fn tangent_on(side: f32) -> f32
     ensures { result ≡ tangent_on side }
 {
     float::abs(side) * 0.5 * rect::KAPPA
 }
 
-// The commands of the ellipse in a box, around a centre, with these sides.
-pub fn ellipse_commands(bounds: Bounds, cx: f32, cy: f32, w: f32, h: f32) -> [PathCommand; 6]
-    ensures { result ≡ ellipse_in bounds cx cy w h }
+// The commands of the ellipse with this centre and size.
+#[tactic(auto, unfolding(crate::specs::Ellipse::ellipse_path, crate::specs::Ellipse::ellipse_in))]
+pub fn ellipse_commands(frame: Frame) -> [PathCommand; 6]
+    ensures { result ≡ ellipse_path frame.centre.x frame.centre.y frame.size.x frame.size.y }
 {
-    let tx = tangent_on(w);
-    let ty = tangent_on(h);
+    let Point { x: cx, y: cy } = frame.centre;
+    let bounds = frame.bounds();
+    let tx = tangent_on(frame.size.x);
+    let ty = tangent_on(frame.size.y);
     let l = bounds.left;
     let t = bounds.top;
     let r = bounds.right;

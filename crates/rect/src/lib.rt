@@ -9,6 +9,15 @@ ghost use Rattle.rect.specs.Bounds.{near_side, rect_bounds};
 ghost use Rattle.rect.specs.Rect.{epsilon, corner_radius, plain_rect, round_rect, rect_path};
 
 use command::PathCommand;
+use point::Point;
+
+// The centre and the size that a box is made from.
+#[derive(Clone, Copy)]
+pub struct Frame {
+    pub centre: Point,
+    // The width and the height. Their signs do not matter.
+    pub size: Point,
+}
 
 // The sides of a box.
 #[derive(Clone, Copy)]
@@ -22,7 +31,7 @@ pub struct Bounds {
 // ROUND_RECT_KAPPA of drawing_paths.rs, and document 02's number for an ellipse.
 pub const KAPPA: f32 = 0.5522848;
 
-// The side that stands half a size before the centre. With a function of its own for it `rect_bounds` is small enough
+// The side that stands half a size before the centre. With a function of its own for it `bounds` is small enough
 // for the compiler to inline it: else a box would go through memory.
 fn near_side(centre: f32, size: f32) -> f32
     ensures { result ≡ near_side centre size }
@@ -30,21 +39,25 @@ fn near_side(centre: f32, size: f32) -> f32
     fused::mul_add(float::abs(size), -0.5, centre)
 }
 
-// The sides of the box with this centre and size.
-pub fn rect_bounds(cx: f32, cy: f32, w: f32, h: f32) -> Bounds
-    ensures { result ≡ rect_bounds cx cy w h }
-{
-    let left = near_side(cx, w);
-    let top = near_side(cy, h);
-    Bounds {
-        left,
-        top,
-        right: left + float::abs(w),
-        bottom: top + float::abs(h),
+impl Frame {
+    // The sides of the box with this centre and size.
+    #[tactic(auto, unfolding(crate::specs::Bounds::rect_bounds))]
+    pub fn bounds(self) -> Bounds
+        ensures { result ≡ rect_bounds self.centre.x self.centre.y self.size.x self.size.y }
+    {
+        let left = near_side(self.centre.x, self.size.x);
+        let top = near_side(self.centre.y, self.size.y);
+        Bounds {
+            left,
+            top,
+            right: left + float::abs(self.size.x),
+            bottom: top + float::abs(self.size.y),
+        }
     }
 }
 
 // The radius of the corners of a rectangle with this size and roundness.
+#[tactic(auto, unfolding(crate::specs::Rect::corner_radius))]
 pub fn corner_radius(w: f32, h: f32, roundness: f32) -> f32
     ensures { result ≡ corner_radius w h roundness }
 {
@@ -98,6 +111,7 @@ pub fn round_commands(bounds: Bounds, radius: f32) -> [PathCommand; 10]
 }
 
 // How many commands a rectangle has, whatever its box.
+#[tactic(auto, unfolding(crate::specs::Rect::rect_path, crate::specs::Rect::plain_rect, crate::specs::Rect::round_rect))]
 pub fn rect_count(radius: f32) -> usize
     ensures { (b : Bounds) → result ≡ length (rect_path b radius) }
 {
@@ -105,6 +119,7 @@ pub fn rect_count(radius: f32) -> usize
 }
 
 // How many numbers those commands have.
+#[tactic(auto, unfolding(crate::specs::Rect::rect_path, crate::specs::Rect::plain_rect, crate::specs::Rect::round_rect))]
 pub fn rect_numbers(radius: f32) -> usize
     ensures { (b : Bounds) → result ≡ length (numbers_of (rect_path b radius)) }
 {

@@ -1,20 +1,19 @@
 -- What each way out of a function of this crate owes, as the code meets it. Assumes nothing.
 use Rattle.std.specs.Prelude.{Ok}
-use mathlib.Core.Path.{◌≡◌, refl, sym, ap, ◌∙◌}
+use mathlib.Core.Path.{◌≡◌, sym, ap, ◌∙◌}
 use mathlib.Core.Bool.{Bool, true, false, ◌&&◌, and-eq-true_iff}
 use mathlib.Core.List.{List}
-use Prim.Native.Nat.{ℕ, ◌+◌, ◌*◌, ◌^◌, ◌≤◌, ◌<◌}
+use Prim.Native.Nat.{ℕ, ◌+◌, ◌*◌, ◌≤◌}
 use native.Mathlib.Nat.{zero-add, lt_of_le_of_lt, mul-le-mul_right}
 use native.Mathlib.Omega.{arith}
 use mir.Val.{Fits}
 use mir.Syntax.{w64}
 use lib.Dec.{leb}
 use lib.Seq.{sets}
-use borrow.Author.Tests.{lt-leb, le-leb, leb-true}
+use borrow.Author.Tests.{le-leb, leb-true}
 use lib.ListN.{length, get_or}
-use lib.Ieee.{Float, nan, le}
+use lib.Ieee.{Float, nan}
 use Rattle.command.specs.declared.PathCommand.{PathCommand}
-use Rattle.command.specs.declared.PathCommand.TheVariants.{Close}
 use Rattle.command.specs.declared.Refusal.TheVariants.{BufferTooSmall}
 use Rattle.command.specs.Commands.{codes_of, numbers_of}
 use Rattle.command.specs.declared.Size.{Size}
@@ -24,13 +23,11 @@ use Rattle.command.proofs.Buffers.{fitted_accepted, fitted_refused, filled, both
 use Rattle.path.specs.Path.{bezier_count, path_commands}
 use Rattle.path.proofs.Paths.{path_commands_length}
 use Rattle.rect.specs.declared.Bounds.{Bounds}
-use Rattle.rect.specs.Rect.{epsilon, plain_rect, round_rect, rect_path}
-use Rattle.rect.proofs.Ways.{rect_plain, rect_round}
-use Rattle.ellipse.specs.Ellipse.{ellipse_in, ellipse_path}
+use Rattle.rect.specs.Rect.{rect_path}
 use Rattle.ellipse.proofs.Ways.{ellipse_count, ellipse_numbers}
 use Rattle.shape.specs.declared.Shape.{Shape}
 use Rattle.shape.specs.declared.Shape.TheVariants.{Path, Rect, Ellipse}
-use Rattle.shape.specs.Shape.{bounds_of, shape_commands, Fit}
+use Rattle.shape.specs.Shape.{shape_commands, Fit}
 use Rattle.shape.proofs.Enough.{shape_enough}
 
 -- ---- a path
@@ -69,15 +66,6 @@ module _ (radius : Float) (v : List Float) where
   unfolding shape_commands
   rect_numbers m f = f _
 
-  module _ (b : Bounds) (t : Bool) (here : b ≡ bounds_of v) (is : t ≡ le radius epsilon) where
-    pub plain_is : t ≡ true → shape_commands (Rect radius) v ≡ plain_rect b
-    unfolding shape_commands
-    plain_is h = rw (← here) (rect_plain b radius t is h)
-
-    pub round_is : t ≡ false → shape_commands (Rect radius) v ≡ round_rect b radius
-    unfolding shape_commands
-    round_is h = rw (← here) (rect_round b radius t is h)
-
 pub rect_fit : (s : Shape) (v : List Float) (radius : Float) → s ≡ Rect radius → Fit s v → Fit (Rect radius) v
 rect_fit s v radius is fit = rw is at fit
 
@@ -90,11 +78,6 @@ module _ (v : List Float) where
   pub ellipse_few : 26 ≡ length (numbers_of (shape_commands Ellipse v))
   unfolding shape_commands
   ellipse_few = sym (ellipse_numbers (get_or v 0 nan) (get_or v 1 nan) (get_or v 2 nan) (get_or v 3 nan))
-
-  pub ellipse_is : (b : Bounds) (cx cy w h : Float) → b ≡ bounds_of v → cx ≡ get_or v 0 nan → cy ≡ get_or v 1 nan → w ≡ get_or v 2 nan → h ≡ get_or v 3 nan
-      → shape_commands Ellipse v ≡ ellipse_in b cx cy w h
-  unfolding shape_commands ellipse_path
-  ellipse_is b cx cy w h here x y width height = rw (here, x, y, width, height)
 
 pub ellipse_fit : (s : Shape) (v : List Float) → s ≡ Ellipse → Fit s v → Fit Ellipse v
 ellipse_fit s v is fit = rw is at fit
@@ -109,10 +92,6 @@ module _ (s t : Shape) (is : s ≡ t) (v : List Float) where
 
   pub counts_are : (n m : ℕ) → n ≡ length (shape_commands t v) → m ≡ length (numbers_of (shape_commands t v)) → (n, m) ≡ size_of (shape_commands s v)
   counts_are n m e f = rw is (size_is (shape_commands t v) n m e f)
-
-pub path_arm_is : (s : Shape) (closed count : ℕ) → s ≡ Path closed count → (v : List Float) → shape_commands s v ≡ path_commands closed v count
-unfolding shape_commands
-path_arm_is s closed count is v = rw is
 
 -- all that the matches on the kind ask
 pub ruleset path_needs = (path_few, path_count, path_numbers, size_is)

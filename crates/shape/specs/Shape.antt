@@ -6,11 +6,16 @@ use Rattle.std.proofs.Props.{props}
 use Rattle.command.specs.declared.PathCommand.{PathCommand}
 use Rattle.path.specs.Path.{path_commands, Sound}
 use Rattle.rect.specs.declared.Bounds.{Bounds}
+use Rattle.rect.specs.declared.Frame.{Frame}
 use Rattle.rect.specs.Bounds.{rect_bounds}
 use Rattle.rect.specs.Rect.{rect_path}
 use Rattle.ellipse.specs.Ellipse.{ellipse_path}
 use Rattle.shape.specs.declared.Shape.{Shape}
 use Rattle.shape.specs.declared.Shape.TheVariants.{Path, Rect, Ellipse}
+
+-- the centre and the size that are the first four numbers of v
+abbrev pub frame_of : List Float → Frame
+frame_of v = record { centre = record { x = get_or v 0 nan; y = get_or v 1 nan }; size = record { x = get_or v 2 nan; y = get_or v 3 nan } }
 
 -- the box whose centre and size are the first four numbers of v
 abbrev pub bounds_of : List Float → Bounds

@@ -6,12 +6,16 @@ ghost use Rattle.std.proofs.lemmas.List.Edits.{sets};
 ghost use Rattle.command.specs.Commands.{codes_of, numbers_of};
 ghost use Rattle.command.specs.Outcomes.{number_of};
 ghost use Rattle.command.specs.Buffers.{fitted, in_buffers, codes_told, numbers_told, FilledBoth, size_of, pair_of};
+ghost use Rattle.rect.specs.Bounds.{rect_bounds};
+ghost use Rattle.rect.specs.Rect.{rect_path};
+ghost use Rattle.ellipse.specs.Ellipse.{ellipse_path};
 ghost use Rattle.sheet.specs.Sheets.{HasRoom, Wrote};
-ghost use Rattle.shape.specs.declared.Shape.TheVariants.{Path, Rect, Ellipse};
-ghost use Rattle.shape.specs.Shape.{bounds_of, shape_commands, Fit, fit_prop};
+ghost use Rattle.shape.specs.declared.Shape.TheVariants.{Path};
+ghost use Rattle.shape.specs.Shape.{frame_of, shape_commands, Fit, fit_prop};
 
 use command::{Outcome, Refusal, Size};
-use rect::Bounds;
+use point::Point;
+use rect::Frame;
 use sheet::Sheet;
 
 // What is to be drawn, and what decides how much of it there is. Its numbers stand in the list of a `Drawing`.
@@ -47,21 +51,30 @@ fn path_need(closed: u32, count: usize, list: &[f32]) -> Size
     }
 }
 
-// The box whose centre and size are the first four numbers of a list.
-fn bounds_of(list: &[f32]) -> Bounds
+// The centre and the size that are the first four numbers of a list.
+fn frame_of(list: &[f32]) -> Frame
     requires { 4 ≤ length list.now }
-    ensures { result ≡ bounds_of list.now }
+    ensures { result ≡ frame_of list.now }
 {
-    rect::rect_bounds(list[0], list[1], list[2], list[3])
+    Frame {
+        centre: Point {
+            x: list[0],
+            y: list[1],
+        },
+        size: Point {
+            x: list[2],
+            y: list[3],
+        },
+    }
 }
 
 // Writes a rectangle.
-fn write_rect(radius: f32, list: &[f32], sheet: &mut Sheet)
-    requires there { 4 ≤ length list.now }
-    requires room { HasRoom (shape_commands (Rect radius) list.now) sheet.old }
-    ensures { Wrote (shape_commands (Rect radius) list.now) sheet.old sheet.new }
+#[tactic(auto, unfolding(rect::specs::Rect::rect_path))]
+fn write_rect(radius: f32, frame: Frame, sheet: &mut Sheet)
+    requires { HasRoom (rect_path (rect_bounds frame.centre.x frame.centre.y frame.size.x frame.size.y) radius) sheet.old }
+    ensures { Wrote (rect_path (rect_bounds frame.centre.x frame.centre.y frame.size.x frame.size.y) radius) sheet.old sheet.new }
 {
-    let bounds = bounds_of(list);
+    let bounds = frame.bounds();
     if rect::is_plain(radius) {
         sheet.put_all(&rect::plain_commands(bounds));
     } else {
@@ -70,14 +83,11 @@ fn write_rect(radius: f32, list: &[f32], sheet: &mut Sheet)
 }
 
 // Writes an ellipse.
-fn write_ellipse(list: &[f32], sheet: &mut Sheet)
-    requires there { 4 ≤ length list.now }
-    requires room { HasRoom (shape_commands Ellipse list.now) sheet.old }
-    ensures { Wrote (shape_commands Ellipse list.now) sheet.old sheet.new }
+fn write_ellipse(frame: Frame, sheet: &mut Sheet)
+    requires { HasRoom (ellipse_path frame.centre.x frame.centre.y frame.size.x frame.size.y) sheet.old }
+    ensures { Wrote (ellipse_path frame.centre.x frame.centre.y frame.size.x frame.size.y) sheet.old sheet.new }
 {
-    let bounds = bounds_of(list);
-    let commands = ellipse::ellipse_commands(bounds, list[0], list[1], list[2], list[3]);
-    sheet.put_all(&commands);
+    sheet.put_all(&ellipse::ellipse_commands(frame));
 }
 
 // Whether two buffers of these lengths have so many places.
@@ -110,6 +120,7 @@ impl<'a> Drawing<'a> {
     }
 
     // Writes it with a sheet.
+    #[tactic(auto, unfolding(crate::specs::Shape::shape_commands))]
     fn put(&self, sheet: &mut Sheet)
         requires { HasRoom (commands_of self.now) sheet.old }
         ensures { Wrote (commands_of self.now) sheet.old sheet.new }
@@ -118,8 +129,8 @@ impl<'a> Drawing<'a> {
             Shape::Path(closed, count) => segment_writer::write_path(
                 closed, self.list, count, sheet,
             ),
-            Shape::Rect(radius) => write_rect(radius, self.list, sheet),
-            Shape::Ellipse => write_ellipse(self.list, sheet),
+            Shape::Rect(radius) => write_rect(radius, frame_of(self.list), sheet),
+            Shape::Ellipse => write_ellipse(frame_of(self.list), sheet),
         }
     }
 
