@@ -1,5 +1,6 @@
 -- Where an angle points, from the sixteenths of its size and its sign. Assumes nothing.
-use Rattle.std.proofs.Common.{◌≡◌, ℕ, zero, suc, ◌+◌, ◌-◌, ◌*◌, ◌%◌, ◌^◌, ◌<◌, ◌≤◌, Bool, true, false, cond, ℤ, pos, neg_ℤ, sym, refl, ap, ◌∙◌, zero-mul, arith, ltb-false, ltb-true, eqb-true}
+use Rattle.std.proofs.Common.{◌≡◌, ℕ, zero, suc, ◌+◌, ◌-◌, ◌*◌, ◌%◌, ◌^◌, ◌<◌, ◌≤◌, Bool, true, false, cond, ℤ, pos, negsuc, neg_ℤ, sym, refl, ap, ◌∙◌, zero-mul, arith, lit<, lt_of_le_of_lt, ltb-false, ltb-true, eqb-true}
+use Rattle.std.proofs.Math.Nat.{mod-lt, sub-le}
 use lib.Ieee.{Float, nan, inf, fin, up, down, lt, below, of_bits}
 use lib.Ieee.Exact.{HasValue}
 use lib.Ieee.Fits.{down_pos}
@@ -12,6 +13,12 @@ use Rattle.ieee.proofs.Comparison.{lt_at}
 use Rattle.ieee.proofs.Bounds.{within→bounded}
 use Rattle.angle.specs.Sixteenths.{sixteenths_in, sixteenths_of, reduced, turn_of}
 use Rattle.angle.proofs.Halves.{limit_value}
+
+-- ---- what is left of an angle without whole turns is below a whole turn
+pub reduced_below : (z : ℤ) → reduced z < 5760
+unfolding reduced
+reduced_below (pos n) = mod-lt n (lit< tt)
+reduced_below (negsuc n) = lt_of_le_of_lt (sub-le 5759 (n % 5760)) (lit< tt)
 
 -- ---- whole numbers
 back : (n : ℕ) → (5760 - n % 5760) % 5760 ≡ reduced (neg_ℤ (pos n))

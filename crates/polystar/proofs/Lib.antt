@@ -1,5 +1,4 @@
 -- What the proofs of `polystar` cite.
-pub mod Marks
 pub mod Turns
 pub mod Ways
 pub mod Single

@@ -21,7 +21,7 @@ polystar_single star =
     round_single (point_at star) star.count
     (λ k h.
     let w = direction_of (turn_at star k) in
-    (add_single star.x ((ring_at star k).radius ⊗ w.cosine), add_single star.y ((ring_at star k).radius ⊗ w.sine)))
+    (add_single star.centre.x ((ring_at star k).radius ⊗ w.cosine), add_single star.centre.y ((ring_at star k).radius ⊗ w.sine)))
 
 -- all but the points, which are counted before
 pub polystar_read : (mark count : ℕ) (v v' : List Float) → ((i : ℕ) → i < 8 → get_or v' i nan ≡ get_or v i nan) → polystar_of mark count v' ≡ polystar_of mark count v

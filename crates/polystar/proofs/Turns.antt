@@ -15,9 +15,9 @@ use lib.ListN.{get_or}
 use borrow.Author.Tests.{ltb-true, ltb-false}
 use Rattle.sine.specs.declared.Turn.{Turn}
 use Rattle.angle.specs.Sixteenths.{sixteenths_of, reduced, turn_of}
+use Rattle.angle.proofs.Reduced.{reduced_below}
 use Rattle.polystar.specs.Polystar.{is_reversed, start_of, steps_to, polystar_of, turn_from}
 use Rattle.polystar.specs.Points.{PointsStand}
-use Rattle.polystar.specs.Reduced.{reduced_below}
 
 -- ---- sums and differences, reduced
 difference : (a b : ℕ) → reduced (sub_ℕ a b) ≡ (a + (5760 - b % 5760)) % 5760
@@ -48,10 +48,9 @@ same_turn a b e = λ i. record {
   reduced = is_prop→PathP (λ j. e j < 5760) (λ j. le_prop) a.reduced b.reduced i;
 }
 
-pub first_stands : (rotation : Float) (turn start : Turn) → start.sixteenths ≡ (turn.sixteenths + 4320) % 5760
-    → turn.sixteenths ≡ turn_of rotation → start ≡ start_of rotation
+pub first_stands : (rotation : Float) (start : Turn) → start.sixteenths ≡ (turn_of rotation + 4320) % 5760 → start ≡ start_of rotation
 unfolding turn_of start_of
-first_stands rotation turn start s_is e = same_turn _ _ (s_is ∙ rw e (sym (steps_back (sixteenths_of rotation) 1440)))
+first_stands rotation start e = same_turn _ _ (e ∙ sym (steps_back (sixteenths_of rotation) 1440))
 
 -- ---- turn_at
 few_steps : (k count : ℕ) → k < count → count ≤ 1024 → 11520 * k + count < 5760 * (2 * count)
@@ -100,7 +99,7 @@ module _ (count start k : ℕ) (inside : k < count) (few : count ≤ 1024) (turn
       ahead start steps turned ∙ sym (steps_on (pos start) steps) ∙ ap (λ (n : ℕ). reduced (pos start +ℤ pos n)) same in
       turn_is ∙ (rw e is)
 
-pub ruleset turns = (steps_inside, steps_fit)
+pub ruleset turns = (steps_inside, steps_fit, turned_back, turned_on)
 
 -- ---- in document 02's words
 again : (z : ℤ) → reduced (pos (reduced z)) ≡ reduced z

@@ -1,5 +1,4 @@
 -- Polystars: which numbers make one, and its points.
 pub mod Marks
-pub mod Reduced
 pub mod Polystar
 pub mod Points

@@ -19,7 +19,7 @@ use Rattle.sine.specs.declared.Turn.{Turn}
 use Rattle.angle.specs.declared.Direction.{Direction}
 use Rattle.angle.specs.Sixteenths.{sixteenths_of, reduced}
 use Rattle.angle.specs.Direction.{direction_of}
-use Rattle.polystar.specs.Reduced.{reduced_below}
+use Rattle.angle.proofs.Reduced.{reduced_below}
 use Rattle.polystar.specs.declared.Ring.{Ring}
 use Rattle.polystar.specs.declared.Polystar.{Polystar}
 
@@ -88,8 +88,7 @@ unfoldable pub polystar_of : ℕ → ℕ → List Float → Polystar
 polystar_of mark count v =
     let outer = ring_of mark count (get_or v 3 nan) (get_or v 5 nan) in
     record {
-      x = get_or v 0 nan;
-      y = get_or v 1 nan;
+      centre = record { x = get_or v 0 nan; y = get_or v 1 nan };
       count = count;
       start = start_of (get_or v 7 nan);
       reversed = is_reversed mark;
@@ -136,7 +135,7 @@ vertex_toward cx cy ring toward =
     }
 
 unfoldable pub point_at : Polystar → ℕ → BezierVertex
-point_at star i = vertex_toward star.x star.y (ring_at star i) (direction_of (turn_at star i))
+point_at star i = vertex_toward star.centre.x star.centre.y (ring_at star i) (direction_of (turn_at star i))
 
 -- ---- its path: that of its vertices, closed
 

@@ -2,11 +2,9 @@
 // drawing_paths.rs, with directions from the table of sines.
 #![tactic(auto)]
 
-ghost use Rattle.std.specs.Prelude.{◌≡◌, true, cond, ◌*◌, ◌≤◌, ◌<◌, length, get_or};
-ghost use Rattle.std.specs.Float.{nan};
+ghost use Rattle.std.specs.Prelude.{◌≡◌, true, ◌≤◌, ◌<◌};
 ghost use Rattle.ieee.specs.Literal.{number_limit};
 ghost use Rattle.ieee.specs.Limit.{within};
-ghost use Rattle.angle.specs.Direction.{direction_of};
 ghost use Rattle.polystar.specs.Marks.{number_of, mark_of};
 ghost use Rattle.polystar.specs.Polystar as spec;
 
@@ -26,9 +24,7 @@ pub struct Ring {
 // `polystar_of` of specs/ makes one of any numbers.
 #[derive(Clone, Copy)]
 pub struct Polystar {
-    // The centre.
-    pub x: f32,
-    pub y: f32,
+    pub centre: Point,
     // How many points, inner ones too.
     pub count: usize,
     // Where the first one stands.
@@ -76,6 +72,33 @@ impl Mark {
     {
         if self.is_reversed() { -1.0 } else { 1.0 }
     }
+
+    // The part of the perimeter of a ring that belongs to one of so many points.
+    #[tactic(auto, using(crate::proofs::Ways::perimeters))]
+    fn perimeter(self, count: usize, radius: f32) -> f32
+        requires { count ≤ 1024 }
+        ensures { result ≡ spec.perimeter_of (number_of self) count radius }
+    {
+        let n = whole::from_whole(false, count as u64);
+        if self.is_star() {
+            2.0 * 3.1415927 * radius / (n * 2.0)
+        } else {
+            2.0 * 3.1415927 * radius / (n * 4.0)
+        }
+    }
+
+    // The ring of so many points that has this radius and this roundness in percent.
+    #[tactic(auto, unfolding(crate::specs::Polystar::ring_of))]
+    fn ring(self, count: usize, radius: f32, roundness: f32) -> Ring
+        requires { count ≤ 1024 }
+        ensures { result ≡ spec.ring_of (number_of self) count radius roundness }
+    {
+        let size = float::abs(radius);
+        Ring {
+            radius: size,
+            tangent: self.perimeter(count, size) * (roundness / 100.0) * self.sign(),
+        }
+    }
 }
 
 impl From<Mark> for u32 {
@@ -106,6 +129,7 @@ impl From<u32> for Mark {
 }
 
 // How many points there are, of so many whole ones: a star has an inner one after each.
+// The mark is a number, as C lends it: what is promised holds of any, listed or not.
 pub fn point_count(mark: u32, whole: usize) -> usize
     requires { whole ≤ 512 }
     ensures { result ≡ spec.point_count mark whole }
@@ -118,6 +142,7 @@ pub fn point_count(mark: u32, whole: usize) -> usize
 }
 
 // Whether there is no star of so many whole points and these radii, or no polygon, which does not use the inner one.
+// The mark is a number, as C lends it: what is promised holds of any, listed or not.
 pub fn is_degenerate(mark: u32, whole: usize, outer: f32, inner: f32) -> bool
     ensures { result ≡ spec.is_degenerate mark whole outer inner }
 {
@@ -125,30 +150,6 @@ pub fn is_degenerate(mark: u32, whole: usize, outer: f32, inner: f32) -> bool
         whole < 2 || float::is_within(outer, f32::EPSILON) || float::is_within(inner, f32::EPSILON)
     } else {
         whole < 3 || float::is_within(outer, f32::EPSILON)
-    }
-}
-
-// The part of the perimeter of a ring that belongs to a point.
-fn perimeter_of(mark: Mark, count: usize, radius: f32) -> f32
-    requires { count ≤ 1024 }
-    ensures { result ≡ spec.perimeter_of (number_of mark) count radius }
-{
-    let n = whole::from_whole(false, count as u64);
-    if mark.is_star() {
-        2.0 * 3.1415927 * radius / (n * 2.0)
-    } else {
-        2.0 * 3.1415927 * radius / (n * 4.0)
-    }
-}
-
-fn ring_of(mark: Mark, count: usize, radius: f32, roundness: f32) -> Ring
-    requires { count ≤ 1024 }
-    ensures { result ≡ spec.ring_of (number_of mark) count radius roundness }
-{
-    let size = float::abs(radius);
-    Ring {
-        radius: size,
-        tangent: perimeter_of(mark, count, size) * (roundness / 100.0) * mark.sign(),
     }
 }
 
@@ -160,58 +161,34 @@ fn start_of(rotation: f32) -> Turn
     Turn::by_sixteenths(angle::turn(rotation).sixteenths + 4320)
 }
 
-// The inner points of a star; those of a polygon are outer ones.
-fn inner_ring(mark: Mark, count: usize, list: &[f32], outer: Ring) -> Ring
-    requires { (count ≤ 1024) × (8 ≤ length list.now) }
-    ensures { result ≡ cond (spec.is_star (number_of mark)) (spec.ring_of (number_of mark) count (get_or list.now 4 nan) (get_or list.now 6 nan)) outer }
-{
-    if mark.is_star() {
-        ring_of(mark, count, list[4], list[6])
-    } else {
-        outer
-    }
-}
-
-// The polystar of a mark whose eight numbers are the first of a list.
-fn marked(mark: Mark, count: usize, list: &[f32]) -> Polystar
-    requires { spec.Drawable count list.now }
-    ensures { (result ≡ spec.polystar_of (number_of mark) count list.now) × spec.Sound result }
-{
-    let outer = ring_of(mark, count, list[3], list[5]);
-    Polystar {
-        x: list[0],
-        y: list[1],
-        count: count,
-        start: start_of(list[7]),
-        reversed: mark.is_reversed(),
-        outer: outer,
-        inner: inner_ring(mark, count, list, outer),
-    }
-}
-
-// The same of a mark as C knows it.
+// The polystar of a mark, so many points and the eight numbers that a list starts with. Inner points of a polygon are outer ones.
+// The mark is a number, as C lends it: what is promised holds of any, listed or not.
+#[tactic(auto, using(crate::proofs::Ways::rings_alike), unfolding(crate::specs::Polystar::polystar_of))]
 pub fn polystar_of(mark: u32, count: usize, list: &[f32]) -> Polystar
     requires { spec.Drawable count list.now }
     ensures { (result ≡ spec.polystar_of mark count list.now) × spec.Sound result }
 {
-    marked(Mark::from(mark), count, list)
-}
-
-// Where point k stands: so many sixteenths of a degree on from the first, or back for direction 3.
-#[tactic(auto, using(crate::proofs::Turns::turns))]
-fn turn_at(count: usize, start: Turn, reversed: bool, k: usize) -> Turn
-    requires { (k < count) × (count ≤ 1024) }
-    ensures { result.sixteenths ≡ spec.turn_from count start.sixteenths reversed k }
-{
-    let steps = (11520 * k + count) / (2 * count);
-    if reversed {
-        Turn::by_sixteenths(start.sixteenths + 5760 - steps)
-    } else {
-        Turn::by_sixteenths(start.sixteenths + steps)
+    let mark = Mark::from(mark);
+    let outer = mark.ring(count, list[3], list[5]);
+    Polystar {
+        centre: Point {
+            x: list[0],
+            y: list[1],
+        },
+        count,
+        start: start_of(list[7]),
+        reversed: mark.is_reversed(),
+        outer,
+        inner: if mark.is_star() {
+            mark.ring(count, list[4], list[6])
+        } else {
+            outer
+        },
     }
 }
 
 // A vector of length 1 across the one to (x, y), whose length is near a number.
+#[tactic(auto, unfolding(crate::specs::Polystar::unit_perpendicular))]
 fn unit_perpendicular(x: f32, y: f32, near: f32) -> Point
     ensures { result ≡ spec.unit_perpendicular x y }
 {
@@ -226,26 +203,42 @@ fn unit_perpendicular(x: f32, y: f32, near: f32) -> Point
     }
 }
 
-// The vertex at a distance from the centre in a direction, with its tangents.
-fn vertex_toward(cx: f32, cy: f32, ring: Ring, toward: Direction) -> BezierVertex
-    ensures { result ≡ spec.vertex_toward cx cy ring toward }
-{
-    let radius = ring.radius;
-    let tangent = ring.tangent;
-    let x = radius * toward.cosine;
-    let y = radius * toward.sine;
-    let normal = unit_perpendicular(x, y, radius);
-    BezierVertex {
-        ix: normal.x * tangent,
-        iy: normal.y * tangent,
-        ox: -normal.x * tangent,
-        oy: -normal.y * tangent,
-        x: cx + x,
-        y: cy + y,
+impl Ring {
+    // Its vertex in a direction, with its tangents.
+    #[tactic(auto, unfolding(crate::specs::Polystar::vertex_toward))]
+    fn vertex_toward(self, centre: Point, toward: Direction) -> BezierVertex
+        ensures { result ≡ spec.vertex_toward centre.x centre.y self toward }
+    {
+        let x = self.radius * toward.cosine;
+        let y = self.radius * toward.sine;
+        let normal = unit_perpendicular(x, y, self.radius);
+        BezierVertex {
+            ix: normal.x * self.tangent,
+            iy: normal.y * self.tangent,
+            ox: -normal.x * self.tangent,
+            oy: -normal.y * self.tangent,
+            x: centre.x + x,
+            y: centre.y + y,
+        }
     }
 }
 
 impl Polystar {
+    // Where point k stands: so many sixteenths of a degree on from the first, or back for direction 3.
+    #[tactic(auto, using(crate::proofs::Turns::turns))]
+    fn turn_at(self, k: usize) -> Turn
+        requires { spec.Sound self × (k < self.count) }
+        ensures { result.sixteenths ≡ spec.turn_at self k }
+    {
+        let steps = (11520 * k + self.count) / (2 * self.count);
+        if self.reversed {
+            Turn::by_sixteenths(self.start.sixteenths + 5760 - steps)
+        } else {
+            Turn::by_sixteenths(self.start.sixteenths + steps)
+        }
+    }
+
+    // The ring that point k is on.
     fn ring_at(self, k: usize) -> Ring
         ensures { result ≡ spec.ring_at self k }
     {
@@ -253,11 +246,12 @@ impl Polystar {
     }
 
     // Point k.
+    #[tactic(auto, unfolding(crate::specs::Polystar::point_at))]
     pub fn point_at(self, k: usize) -> BezierVertex
         requires { spec.Sound self × (k < self.count) }
         ensures { result ≡ spec.point_at self k }
     {
-        let turn = turn_at(self.count, self.start, self.reversed, k);
-        vertex_toward(self.x, self.y, self.ring_at(k), angle::direction_at(turn))
+        let toward = angle::direction_at(self.turn_at(k));
+        self.ring_at(k).vertex_toward(self.centre, toward)
     }
 }
