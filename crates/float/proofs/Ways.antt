@@ -6,14 +6,12 @@ use native.Mathlib.Omega.{arith}
 use mathlib.Core.Bool.{Bool, true, false, not, ◌&&◌, and-true, and_assoc}
 use mathlib.Core.List.{List, [], ◌∷◌, ◌++◌}
 use lib.Dec.{T, leb, ltb, ltb→lt, nltb→le}
-use lib.Ieee.{Float, nan, inf, fin, binary32, units, neg, lt, le, fits, is_nan, of_bits, to_bits, nan_bits}
+use lib.Ieee.{Float, nan, inf, fin, binary32, units, neg, le, fits, is_nan, of_bits, to_bits, nan_bits}
 use lib.Ieee.Bits.{to_bits-lt}
 use lib.Ieee.Exact.{HasValue}
 use lib.Ieee.Scale.{finite}
 use Rattle.std.specs.Float.{float_with_sign, float_is_finite}
 use Rattle.ieee.specs.Sign.{abs}
-use Rattle.ieee.specs.Choice as Choice
-use Rattle.ieee.specs.Choice.{max, at_least, at_most, clamp}
 use Rattle.ieee.specs.Limit.{within, all_within}
 use Rattle.ieee.specs.Pattern.{with_sign, drops_of, infinity}
 use Rattle.ieee.proofs.Pattern.{pattern_ok, write_finite, write_inf, read_value, read_inf, read_number}
@@ -97,53 +95,6 @@ finite_is nan = refl
 finite_is (inf s) = refl
 finite_is (fin s m e) = refl
 
--- ---- min, max, clamp
-pub min_less : (x y : Float) → lt x y ≡ true → x ≡ Choice.min x y
-unfolding Choice.min
-min_less x y h = rw h
-
-pub min_beside_nan : (x y : Float) → is_nan y ≡ true → x ≡ Choice.min x y
-unfolding Choice.min
-min_beside_nan x y k = grind (arith, k)
-
-pub min_second : (x y : Float) → lt x y ≡ false → is_nan y ≡ false → y ≡ Choice.min x y
-unfolding Choice.min
-min_second x y h k = rw (h, k)
-
-pub max_more : (x y : Float) → lt y x ≡ true → x ≡ max x y
-unfolding max
-max_more x y h = rw h
-
-pub max_beside_nan : (x y : Float) → is_nan y ≡ true → x ≡ max x y
-unfolding max
-max_beside_nan x y k = grind (arith, k)
-
-pub max_second : (x y : Float) → lt y x ≡ false → is_nan y ≡ false → y ≡ max x y
-unfolding max
-max_second x y h k = rw (h, k)
-
-pub at_least_low : (lo x : Float) → lt x lo ≡ true → lo ≡ at_least lo x
-unfolding at_least
-at_least_low lo x h = rw h
-
-pub at_least_stay : (lo x : Float) → lt x lo ≡ false → x ≡ at_least lo x
-unfolding at_least
-at_least_stay lo x h = rw h
-
-pub clamp_high : (lo hi x y : Float) → y ≡ at_least lo x → lt hi y ≡ true → hi ≡ clamp lo hi x
-unfolding clamp
-clamp_high lo hi x y e h = at_most_lem y h ∙ ap (at_most hi) e
-  where
-    at_most_lem : (y : Float) → lt hi y ≡ true → hi ≡ at_most hi y
-    at_most_lem y h = unfold at_most in rw h
-
-pub clamp_stay : (lo hi x y : Float) → y ≡ at_least lo x → lt hi y ≡ false → y ≡ clamp lo hi x
-unfolding clamp
-clamp_stay lo hi x y e h = at_most_lem y h ∙ ap (at_most hi) e
-  where
-    at_most_lem : (y : Float) → lt hi y ≡ false → y ≡ at_most hi y
-    at_most_lem y h = unfold at_most in rw h
-
 -- ---- is_within, all_within
 pub within_low : (limit x : Float) → le x limit ≡ true → le (neg limit) x ≡ within limit x
 within_low limit x h = sym (within_both x limit ∙ ap (λ (b : Bool). b && le (neg limit) x) h)
@@ -165,4 +116,4 @@ all_none limit = refl
 pub all_more : (limit : Float) (xs : List Float) (x : Float) (so_far : Bool) → so_far ≡ all_within limit xs → (so_far && within limit x) ≡ all_within limit (xs ++ (x ∷ []))
 all_more limit xs x so_far e = ap (λ (b : Bool). b && within limit x) e ∙ sym (all_push limit xs x)
 
-pub ruleset ways = (pattern_fits, split_nan, split_inf, split_value, split_small, split_short, split_full, ok_minus, ok_plus, signed_minus, signed_plus, encode_is, abs_is, finite_is, at_least_low, at_least_stay, clamp_high, clamp_stay, within_low, within_not)
+pub ruleset ways = (pattern_fits, split_nan, split_inf, split_value, split_small, split_short, split_full, ok_minus, ok_plus, signed_minus, signed_plus, encode_is, abs_is, finite_is, within_low, within_not)

@@ -81,6 +81,8 @@ pub fn abs(x: f32) -> f32
 }
 
 // The smaller of two, where a NaN gives way; the second of two that compare equal, of which `f32::min` may answer either.
+// x and y are two operands, here and wherever they stand side by side, and no point: a type for both would have nothing to say.
+#[tactic(auto, unfolding(ieee::specs::Choice::min))]
 pub fn min(x: f32, y: f32) -> f32
     ensures { result ≡ Choice.min x y }
 {
@@ -88,12 +90,14 @@ pub fn min(x: f32, y: f32) -> f32
 }
 
 // The larger of two, where a NaN gives way; the second of two that compare equal, of which `f32::max` may answer either.
+#[tactic(auto, unfolding(ieee::specs::Choice::max))]
 pub fn max(x: f32, y: f32) -> f32
     ensures { result ≡ Choice.max x y }
 {
     if y < x || y.is_nan() { x } else { y }
 }
 
+#[tactic(auto, unfolding(ieee::specs::Choice::at_least))]
 fn at_least(lo: f32, x: f32) -> f32
     ensures { result ≡ Choice.at_least lo x }
 {
@@ -101,6 +105,7 @@ fn at_least(lo: f32, x: f32) -> f32
 }
 
 // x, not below lo and then not above hi. `f32::clamp` asks for a lo that is at most hi.
+#[tactic(auto, unfolding(ieee::specs::Choice::clamp, ieee::specs::Choice::at_most))]
 pub fn clamp(x: f32, lo: f32, hi: f32) -> f32
     ensures { result ≡ Choice.clamp lo hi x }
 {

@@ -65,6 +65,13 @@ lift_is t r z M h Z E s a b =
       high = subst (λ (x : ℕ). x < 2 ^ (64 - z)) (sym m) (high t.m z M h Z);
     }
 
+pub lift_same : (m z e : ℕ) → 0 < m → m < 2 ^ (64 - z) → z < 64 → 64 ≤ e
+    → m * 2 ^ (count_leading_zeros 64 m - z) % 2 ^ 64 * 2 ^ (e - (count_leading_zeros 64 m - z)) ≡ m * 2 ^ e
+lift_same m z e M h Z E =
+    let up = n m z M h Z in
+    let room = zeros_room m z M h Z e E in
+    ap (λ (x : ℕ). x * 2 ^ (e - up)) (kept m z M h Z) ∙ mul_assoc m (2 ^ up) (2 ^ (e - up)) ∙ ap (λ (x : ℕ). m * x) (sym (pow-add 2 up (e - up)) ∙ ap (λ (x : ℕ). 2 ^ x) (omega arith))
+
 -- ---- m >> s, and back
 module _ (m s : ℕ) (h : m < 2 ^ 64) where
   back_is : m / 2 ^ s * 2 ^ s % 2 ^ 64 ≡ m / 2 ^ s * 2 ^ s

@@ -19,8 +19,8 @@ use Rattle.float.specs.declared.parts.Parts.{Parts}
 use Rattle.fused.specs.declared.term.Term.{Term}
 use Rattle.fused.specs.Align.{Operand}
 use Rattle.fused.specs.Lifted.{Lifted}
-use Rattle.fused.proofs.Shift.{zeros_fit, zeros_enough, zeros_few, zeros_room, lift_is, back_le, next_fits, even_fits, round_down, round_up, round_tie, twice_fits, odd_fits, jam_far, jam_even, jam_odd, lifted_even, lifted_near}
-use Rattle.fused.proofs.Packed.{moved, pack_high, pack_none, pack_low, high_small, high_full, high_places, low_small, low_full}
+use Rattle.fused.proofs.Shift.{zeros_fit, zeros_enough, zeros_few, zeros_room, lift_is, lift_same, back_le, next_fits, even_fits, round_down, round_up, round_tie, twice_fits, odd_fits, jam_far, jam_even, jam_odd, lifted_even, lifted_near}
+use Rattle.fused.proofs.Packed.{pack_high, pack_none, pack_low, closest_small, closest_large}
 use Rattle.fused.proofs.Aligned.{nought, plus_fits, plus_small, less_small, plus_way, less_way, more_way, none_way}
 use Rattle.fused.proofs.Sums.{sum_like, sum_none, sum_swap, sum_left, sum_right}
 use Rattle.fused.proofs.Special.{fma_first, fma_second, fma_last}
@@ -70,25 +70,15 @@ module _ (x y : Term) where
 
 -- what `lifted` gives is what `plus_lower` takes
 module _ (t r : Term) (l : Lifted t 2 r) where
-  pub operand : t.m < 2 ^ 48 → Operand r.m
-  operand h = record {
+  pub operand_is : t.m < 2 ^ 48 → Operand r.m
+  operand_is h = record {
     low = l.low;
     high = l.high;
     even = ap (λ (x : ℕ). x % 2 ^ 14) l.up ∙ lifted_even t.m l.n h (subst (λ (x : ℕ). 2 ^ 61 ≤ x) l.up l.low);
   }
 
-  pub lifted_low : (t.m ≡ 0 → ⊥) → 128 ≤ t.e → 64 ≤ r.e
-  lifted_low M h = let n = lifted_near t.m l.n (omega arith) (subst (λ (x : ℕ). x < 2 ^ 62) l.up l.high) in omega (arith, l.down)
-
-module _ (x y u w : Term) (r : Float) (U : Lifted x 2 u) (W : Lifted y 2 w) where
-  same_sum : plus u w ≡ plus x y
-  same_sum = λ i. sum binary32 (U.sign i) (moved x.m x.e U.n u.m u.e U.up U.down i) (W.sign i) (moved y.m y.e W.n w.m w.e W.up W.down i) (2 ^ 512)
-
-  pub first_large : r ≡ plus u w → r ≡ plus x y
-  first_large h = h ∙ same_sum
-
-  pub second_large : r ≡ plus w u → r ≡ plus x y
-  second_large h = h ∙ sum_swap binary32 w.negative u.negative (w.m * 2 ^ w.e) (u.m * 2 ^ u.e) (2 ^ 512) ∙ same_sum
+  pub operand_high : 0 < t.m → 128 ≤ t.e → 64 ≤ r.e
+  operand_high M h = let n = lifted_near t.m l.n M (subst (λ (x : ℕ). x < 2 ^ 62) l.up l.high) in omega (arith, l.down)
 
 -- ---- mul_add_exact
 abbrev pub Valued : Float → Parts → Type 0
@@ -115,4 +105,4 @@ module _ (x y : Parts) where
   pub product_fits : x.digits * y.digits < 2 ^ 64
   product_fits = lt_of_lt_of_le product_small (lit≤ tt)
 
-pub ruleset ways = (jam_far, jam_even, jam_odd, twice_fits, odd_fits, back_le, next_fits, even_fits, round_down, round_up, round_tie, zeros_fit, zeros_enough, zeros_few, zeros_room, lift_is, pack_high, pack_none, pack_low, high_small, high_full, high_places, low_small, low_full, plus_fits, plus_small, less_small, plus_way, less_way, more_way, none_way, zeros, first_zero, second_zero, operand, lifted_low, first_large, second_large, first_special, second_special, last_special, all_finite_lem, product_small, product_fits, is_number, widens, fast)
+pub ruleset ways = (jam_far, jam_even, jam_odd, twice_fits, odd_fits, back_le, next_fits, even_fits, round_down, round_up, round_tie, zeros_fit, zeros_enough, zeros_few, zeros_room, lift_is, lift_same, pack_high, pack_none, pack_low, closest_small, closest_large, plus_fits, plus_small, less_small, plus_way, less_way, more_way, none_way, zeros, first_zero, second_zero, sum_swap, first_special, second_special, last_special, all_finite_lem, product_small, product_fits, is_number, widens, fast)

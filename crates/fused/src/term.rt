@@ -47,10 +47,12 @@ pub(crate) struct Term {
 impl Term {
     ghost use Rattle.fused.specs.Lifted.{Lifted};
 
-    // The same number with z zeros before the digits of m.
+    // The same number with z zeros before the digits of m. It takes up to 63 from e: so that e is 64 or more is no field of a term, but asked
+    // where a term is lifted.
     fn lifted(self, z: u64) -> Term
         requires { (0 < self.m) × (self.m < 2 ^ (64 - z)) × (64 ≤ self.e) × (z < 64) }
-        ensures { Lifted self z result }
+        ensures moved { Lifted self z result }
+        ensures same { result.m * 2 ^ result.e ≡ self.m * 2 ^ self.e }
     {
         let n = self.m.leading_zeros() as u64 - z;
         Term {
@@ -58,6 +60,14 @@ impl Term {
             m: self.m << n,
             e: self.e - n,
         }
+    }
+
+    // The same number with its digits where `plus_lower` takes them.
+    fn operand(self) -> Term
+        requires { (0 < self.m) × (self.m < 2 ^ 48) × (128 ≤ self.e) }
+        ensures { Operand result.m × (64 ≤ result.e) × (result.negative ≡ self.negative) × (result.m * 2 ^ result.e ≡ self.m * 2 ^ self.e) }
+    {
+        self.lifted(2)
     }
 
     // The number rounded: to 24 digits, and to none below binary32's smallest float, which is 2^363 units.
@@ -105,12 +115,12 @@ impl Term {
         ensures { result ≡ Ieee.sum binary32 self.negative (self.m * 2 ^ self.e) other.negative (other.m * 2 ^ other.e) (2 ^ 512) }
     {
         match (self.m, other.m) {
-            (0, 0) => float::encode(self.negative && other.negative, 0, 0),
+            (0, 0) => float::encode(self.negative & other.negative, 0, 0),
             (0, _) => other.pack(),
             (_, 0) => self.pack(),
             _ => {
-                let x = self.lifted(2);
-                let y = other.lifted(2);
+                let x = self.operand();
+                let y = other.operand();
                 if y.e <= x.e {
                     x.plus_lower(y)
                 } else {

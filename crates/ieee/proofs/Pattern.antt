@@ -10,7 +10,6 @@ use lib.Dec.{T, leb, eqb, eqb→eq, leb→le, le→leb, nleb→lt, nltb→le, no
 use lib.Arith.{lt→nleb, le→nltb}
 use lib.Pow.{pow-add, pow_pos, pow_mono, pow-lt}
 use lib.Ieee.{Float, nan, inf, fin, binary32, odd, units, eq, ne, fits, is_nan, of_fields, of_bits, to_bits, nan_bits}
-use lib.Ieee.Compare.{differs_from_itself}
 use lib.Ieee.Exact.{HasValue, odd_sign, units_val}
 use lib.Ieee.Scale.{finite}
 use lib.Ieee.Bits.{is_true, is_false, cond_no, of_bits-fits, of_bits-to_bits, to_bits-lt, nan_bits_is, nan_bits_above}
@@ -226,10 +225,7 @@ abs_pattern b =
     low : (b : ℕ) → b % 2 ^ 31 % 2 ^ 23 ≡ b % 2 ^ 23
     low b = omega arith
 
--- ---- a NaN differs from itself
-pub is_nan_lem : (x : Float) → ne x x ≡ true → x ≡ nan
-is_nan_lem x e = differs_from_itself x (subst T (sym e) tt)
-
+-- ---- a number, and no NaN, equals itself
 pub is_number : (x : Float) → ne x x ≡ false → T (not (is_nan x))
 unfolding ne is_nan
 is_number nan e = absurd (true≢false e)

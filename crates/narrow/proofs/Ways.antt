@@ -14,5 +14,3 @@ leading_ok b = rest_ok_64 (b - b % 2 ^ 52) (omega arith)
 
 pub keeps_held : (w : Float) → fits binary64 w ≡ true → Kept w (result w)
 keeps_held w f = keeps w (subst T (sym f) tt)
-
-pub ruleset ways = (leading_ok, keeps_held)

@@ -1,6 +1,6 @@
 // A binary64 number kept to 24 binary digits, binary32's, with no test: adding 2^29 times the power of two below it
 // rounds it there, and taking that away again is exact.
-#![tactic(auto)]
+#![tactic(auto, using(crate::proofs::Ways::leading_ok))]
 
 ghost use Rattle.std.specs.Prelude.{not, T};
 ghost use Rattle.std.specs.Float.Ieee.{is_nan};

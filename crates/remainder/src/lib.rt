@@ -2,30 +2,33 @@
 // takes two thirds more time.
 #![tactic(auto, using(crate::proofs::Ways::ways))]
 
-ghost use Rattle.std.specs.Prelude.{◌≡◌, ◌*◌, ◌%◌, ◌^◌, ◌<◌};
+ghost use Rattle.std.specs.Prelude.{◌≡◌, ◌-◌, ◌*◌, ◌%◌, ◌^◌, ◌≤◌, ◌<◌};
 ghost use Rattle.std.specs.Float.Ieee as Ieee;
 ghost use Rattle.std.specs.Float.{binary32};
 ghost use Rattle.ieee.specs.Literal.{turn32};
 ghost use Rattle.ieee.specs.Remainder.{rem_euclid};
 
-// q * 2^j modulo 360. From 8 on the powers of two have period 12 there.
-fn whole_rem(q: u64, j: u64) -> u64
-    requires { q < 2 ^ 24 }
-    ensures { (result ≡ q * 2 ^ j % 360) × (result < 360) }
+use float::Parts;
+
+// The whole number that p is, modulo 360. From 8 on the powers of two have period 12 there.
+fn whole_rem(p: Parts) -> u64
+    requires { 149 ≤ p.drops }
+    ensures { (result ≡ p.digits * 2 ^ (p.drops - 149) % 360) × (result < 360) }
 {
+    let j = p.drops - 149;
     if j < 15 {
-        return (q << j) % 360;
+        return (p.digits << j) % 360;
     }
     let i = (j - 3) % 12 + 3;
-    (q << i) % 360
+    (p.digits << i) % 360
 }
 
-// q / 2^s modulo 360, times 2^s.
-fn part_rem(q: u64, s: u64) -> u64
-    requires { (q < 2 ^ 24) × (s < 16) }
-    ensures { (result ≡ q % (360 * 2 ^ s)) × (result < 2 ^ 24) }
+// The digits of p modulo 360, where its last one is worth 1 / 2^s.
+fn part_rem(p: Parts, s: u64) -> u64
+    requires { s < 16 }
+    ensures { (result ≡ p.digits % (360 * 2 ^ s)) × (result < 2 ^ 24) }
 {
-    q % (360 << s)
+    p.digits % (360 << s)
 }
 
 // 2^s.
@@ -44,13 +47,12 @@ fn rem_parts(x: f32) -> f32
         return x - x;
     };
     if p.drops >= 149 {
-        whole::from_whole(p.negative, whole_rem(p.digits, p.drops - 149))
+        whole::from_whole(p.negative, whole_rem(p))
     } else if p.drops < 134 {
         x
     } else {
         let places = 149 - p.drops;
-        whole::from_whole(p.negative, part_rem(p.digits, places))
-            / whole::from_whole(false, power(places))
+        whole::from_whole(p.negative, part_rem(p, places)) / whole::from_whole(false, power(places))
     }
 }
 

@@ -51,7 +51,7 @@ impl Candidate {
     }
 }
 
-// r, or 0 in place of a NaN and of what is not above 0: one instruction, and no branch.
+// r, or 0 in place of a NaN and of what is not above 0: one instruction, and no branch. An Option would have to be tested wherever the number is used.
 fn number(r: f64) -> f64
     ensures { T (not (is_nan result)) }
 {

@@ -1,5 +1,5 @@
 -- What each way out of `floor`, `ceil`, `round` and the functions that they call owes, as the code meets it. Assumes nothing.
-use mathlib.Core.Path.{◌≡◌, sym, ap, ◌∙◌, subst}
+use mathlib.Core.Path.{◌≡◌, refl, sym, ap, ◌∙◌, subst}
 use Prim.Native.Nat.{ℕ, ◌+◌, ◌-◌, ◌%◌, ◌^◌, ◌<◌}
 use native.Mathlib.Omega.{arith}
 use mathlib.Core.Bool.{Bool, true, false, not, cond}
@@ -65,16 +65,15 @@ module _ (x : Float) (t : Bool) (f : fits binary32 x ≡ true) (e : t ≡ within
     round_beyond = stays_beyond x f near_way (round_away binary32) near_way_lem (near_goes binary32) (sym e ∙ h)
 
 -- ---- from a size to the number
-module _ (x a r u : Float) (S : Small (abs x)) (e : a ≡ abs x) (o : UnitOf x u) where
-  pub round_signed : r ≡ round_away binary32 a → mul binary32 r u ≡ round_away binary32 x
-  round_signed k = round_short x r u S o (k ∙ ap (round_away binary32) e)
+module _ (x u : Float) (S : Small (abs x)) (o : UnitOf x u) where
+  pub round_signed : mul binary32 (round_away binary32 (abs x)) u ≡ round_away binary32 x
+  round_signed = round_short x (round_away binary32 (abs x)) u S o refl
 
-  module _ (k : r ≡ round_even binary32 a) where
-    even_signed : mul binary32 r u ≡ round_even binary32 x
-    even_signed = even_short x r u S o (k ∙ ap (round_even binary32) e)
+  abbrev even : Float
+  even = mul binary32 (round_even binary32 (abs x)) u
 
-    pub floor_stepped : (o : Float) → o ≡ cond (lt x (mul binary32 r u)) one32 zero32 → sub binary32 (mul binary32 r u) o ≡ floor binary32 x
-    floor_stepped = floor_is x (mul binary32 r u) S even_signed
+  pub floor_stepped : sub binary32 even (cond (lt x even) one32 zero32) ≡ floor binary32 x
+  floor_stepped = floor_is x even S (even_short x (round_even binary32 (abs x)) u S o refl) (cond (lt x even) one32 zero32) refl
 
 pub ceil_mirrored : (x r : Float) → r ≡ floor binary32 (neg x) → neg r ≡ ceil binary32 x
 ceil_mirrored x r e = ap neg e ∙ mirrored x

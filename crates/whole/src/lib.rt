@@ -26,7 +26,7 @@ pub fn from_whole(negative: bool, n: u64) -> f32
 
 // q / 2^s to a whole number: the largest that is no more.
 pub fn down_at(q: u64, s: u64) -> u64
-    requires { (q < 2 ^ 24) × (0 < s) }
+    requires { q < 2 ^ 24 }
     ensures { (result ≡ whole_down q (2 ^ s)) × (result ≤ 2 ^ 24) }
 {
     if s < 64 { q >> s } else { 0 }
@@ -34,7 +34,7 @@ pub fn down_at(q: u64, s: u64) -> u64
 
 // The least whole number that is no less.
 pub fn up_at(q: u64, s: u64) -> u64
-    requires { (q < 2 ^ 24) × (0 < s) }
+    requires { q < 2 ^ 24 }
     ensures { (result ≡ whole_up q (2 ^ s)) × (result ≤ 2 ^ 24) }
 {
     if s >= 64 {

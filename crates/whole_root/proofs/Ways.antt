@@ -62,11 +62,11 @@ rounded_fits t s e l = omega (arith, rounded_square t s e)
 pub rounded_short : (t s : ℕ) → s ≡ isqrt t → t < 2 ^ 50 → s < 2 ^ 25
 rounded_short t s e l = subst (λ (x : ℕ). x < 2 ^ 25) (sym e) (isqrt_lt t (2 ^ 25) l)
 
-pub rounded_le : (t s q m : ℕ) → q ≡ halved s m → s ≡ isqrt t → t < 2 ^ 50 → q ≤ 2 ^ 24
-rounded_le t s q m d e l = omega (arith, d, halved_high s m, rounded_short t s e l)
+pub rounded_le : (t m : ℕ) → t < 2 ^ 50 → halved (isqrt t) m ≤ 2 ^ 24
+rounded_le t m l = omega (arith, halved_high (isqrt t) m, isqrt_lt t (2 ^ 25) l)
 
-pub rounded_full : (t s q m k : ℕ) → q ≡ halved s m → s ≡ isqrt t → 0 < k → (0 < k → 2 ^ 48 ≤ t) → 2 ^ 23 ≤ q
-rounded_full t s q m k d e p h = omega (arith, d, halved_low s m, e, isqrt_ge t (2 ^ 24) (h p))
+pub rounded_full : (t m : ℕ) → 2 ^ 48 ≤ t → 2 ^ 23 ≤ halved (isqrt t) m
+rounded_full t m l = omega (arith, halved_low (isqrt t) m, isqrt_ge t (2 ^ 24) l)
 
 pub rounded_is : (t s rest k q : ℕ) (r : Float) → s ≡ isqrt t → q ≡ halved s (rest + (t - s * s)) → r ≡ units binary32 false q k → r ≡ units binary32 false (halved (isqrt t) (rest + (t - isqrt t * isqrt t))) k
 rounded_is t s rest k q r e d u = u ∙ ap (λ (x : ℕ). units binary32 false x k) d ∙ ap (λ (x : ℕ). units binary32 false (halved x (rest + (t - x * x))) k) e

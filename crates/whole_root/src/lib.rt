@@ -35,7 +35,7 @@ fn guess(t: u64) -> u64
     }
 }
 
-// The whole part of t's square root: the guess, moved until it is right.
+// The whole part of t's square root: the guess, moved until it is right. Nothing tells how often, so there is no range that a `for` could go over.
 fn root(t: u64) -> u64
     requires { t < 2 ^ 52 }
     ensures { result ≡ isqrt t }
