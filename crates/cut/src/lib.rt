@@ -7,7 +7,6 @@ ghost use Rattle.command.specs.Buffers.{onto};
 ghost use Rattle.trim.specs.Ranges.{range_ends};
 ghost use Rattle.cut.specs.Cuts.{part_of, cuts_of, cut_numbers, cut_all};
 ghost use Rattle.cut.specs.Calls.{is_finite_trim, is_trim_mode, trim_ranges, cut_measured, trim_lengths};
-ghost use Rattle.cut.specs.Answers.{mark_of};
 
 use command::{Outcome, Refusal};
 use trim::{Ranges, TrimStyle};
@@ -29,6 +28,7 @@ fn is_finite_trim(trim: TrimStyle) -> bool
         && float::is_finite(trim.offset_degrees)
 }
 
+// Whether a mode is listed. It is a number, as C lends it: any may come.
 #[tactic(auto, unfolding(crate::specs::Calls::is_trim_mode))]
 fn is_trim_mode(mode: u8) -> bool
     ensures { result ≡ is_trim_mode mode }
@@ -75,7 +75,7 @@ pub fn trim_lengths(trim: TrimStyle, codes: &[u8], numbers: &[f32]) -> Outcome<(
 }
 
 // A part of a length, not below 0.
-#[tactic(auto, using(crate::proofs::Ways::cutting))]
+#[tactic(auto, unfolding(crate::specs::Cuts::part_of))]
 fn part_of(total: f32, part: f32) -> f32
     ensures { result ≡ part_of total part }
 {
@@ -83,7 +83,6 @@ fn part_of(total: f32, part: f32) -> f32
 }
 
 // The cut lengths of one range.
-#[tactic(auto, using(crate::proofs::Ways::cutting))]
 fn cuts_of(total: f32, start: f32, end: f32) -> Cuts
     ensures { result ≡ cuts_of total start end }
 {
@@ -95,7 +94,7 @@ fn cuts_of(total: f32, start: f32, end: f32) -> Cuts
 }
 
 // Puts the ends of ranges down.
-#[tactic(auto, using(crate::proofs::Ways::ends))]
+#[tactic(auto, using(command::proofs::Buffers::sets_onto))]
 pub fn put_ranges(ranges: Ranges, buffer: &mut [f32])
     requires { 4 ≤ length buffer.old }
     ensures { buffer.new ≡ onto (range_ends ranges) buffer.old }
@@ -112,7 +111,7 @@ pub fn put_ranges(ranges: Ranges, buffer: &mut [f32])
 }
 
 // Puts the cut lengths of one range down from a place on.
-#[tactic(auto, using(crate::proofs::Ways::puts))]
+#[tactic(auto, using(command::proofs::Buffers::sets_append))]
 fn put_cut(cuts: Cuts, buffer: &mut [f32], at: usize)
     requires { at + 3 ≤ length buffer.old }
     ensures { buffer.new ≡ sets buffer.old at (cut_numbers cuts) }
@@ -122,7 +121,7 @@ fn put_cut(cuts: Cuts, buffer: &mut [f32], at: usize)
 }
 
 // Puts the cut lengths of ranges down.
-#[tactic(auto, using(crate::proofs::Ways::lengths))]
+#[tactic(auto, using(command::proofs::Buffers::sets_onto, command::proofs::Buffers::sets_append))]
 pub fn put_cuts(total: f32, ranges: Ranges, buffer: &mut [f32])
     requires { 6 ≤ length buffer.old }
     ensures { buffer.new ≡ onto (cut_all total (range_ends ranges)) buffer.old }
@@ -135,12 +134,4 @@ pub fn put_cuts(total: f32, ranges: Ranges, buffer: &mut [f32])
             put_cut(cuts_of(total, 0.0, end), buffer, 3);
         }
     }
-}
-
-// The mark of a whole path as a number.
-#[tactic(auto, using(crate::proofs::Ways::marks))]
-pub fn mark_of(ranges: Ranges) -> u32
-    ensures { result ≡ mark_of ranges }
-{
-    u32::from(trim::is_full_trim_segments(ranges))
 }

@@ -257,8 +257,8 @@ pub extern "C" fn jengafir_trim_ranges(
         }
         Ok(visible) => {
             cut::put_ranges(visible, ranges);
-            *range_count = trim::range_count(visible);
-            *whole = cut::mark_of(visible);
+            *range_count = visible.count();
+            *whole = u32::from(visible.is_full());
             0
         }
     }
@@ -293,8 +293,8 @@ pub extern "C" fn jengafir_trim_lengths(
         }
         Ok((total, visible)) => {
             cut::put_cuts(total, visible, cuts);
-            *range_count = trim::range_count(visible);
-            *whole = cut::mark_of(visible);
+            *range_count = visible.count();
+            *whole = u32::from(visible.is_full());
             0
         }
     }

@@ -7,6 +7,7 @@ ghost use Rattle.trim.specs.Ranges.{range_count};
 
 // A trim, sampled: start and end in per cent, the offset in degrees, and the mode. Start and end stand apart: side by side
 // they would be stored one by one and then read as one, for which a processor waits.
+// The mode is a number, as C lends it: any may come, and whether it is listed is a check that has its place after others.
 #[derive(Clone, Copy)]
 pub struct TrimStyle {
     pub start: f32,
@@ -21,6 +22,13 @@ pub enum Ranges {
     Nothing,
     One(f32, f32),
     Two(f32, f32),
+}
+
+// From a start to an end on a path. They may be past 1, and the end before the start.
+#[derive(Clone, Copy)]
+struct Span {
+    start: f32,
+    end: f32,
 }
 
 // The step by which trims are rounded: places no further apart are one.
@@ -65,49 +73,66 @@ fn is_near(a: f32, b: f32) -> bool
     float::is_within(a - b, TRIM_STEP)
 }
 
-// Start near a, and end near b.
-#[tactic(auto, unfolding(crate::specs::Trim::near_both))]
-fn are_near(start: f32, end: f32, a: f32, b: f32) -> bool
-    ensures { result ≡ spec.near_both start end a b }
-{
-    is_near(start, a) && is_near(end, b)
-}
-
-// From 0 to 1, or from 1 back to 0.
-#[tactic(auto, unfolding(crate::specs::Trim::is_whole))]
-fn is_whole(start: f32, end: f32) -> bool
-    ensures { result ≡ spec.is_whole start end }
-{
-    are_near(start, end, 0.0, 1.0) || are_near(start, end, 1.0, 0.0)
-}
-
-// The ranges from start to end, which may go past 1.
-#[tactic(auto, unfolding(crate::specs::Trim::ranges_between))]
-fn ranges_between(start: f32, end: f32) -> Ranges
-    ensures { result ≡ spec.ranges_between start end }
-{
-    if is_near(start, end) {
-        Ranges::Nothing
-    } else if is_whole(start, end) {
-        Ranges::One(0.0, 1.0)
-    } else if end <= 1.0 {
-        Ranges::One(clamp_unit(start), clamp_unit(end))
-    } else if start >= 1.0 {
-        Ranges::One(clamp_unit(start - 1.0), clamp_unit(end - 1.0))
-    } else {
-        Ranges::Two(clamp_unit(start), clamp_unit(end - 1.0))
+impl Span {
+    // Start near a, and end near b.
+    #[tactic(auto, unfolding(crate::specs::Trim::near_both))]
+    fn is_near(self, a: f32, b: f32) -> bool
+        ensures { result ≡ spec.near_both self.start self.end a b }
+    {
+        is_near(self.start, a) && is_near(self.end, b)
     }
-}
 
-// The two in order, the lower first.
-#[tactic(auto, unfolding(crate::specs::Trim::lower, crate::specs::Trim::upper))]
-fn in_order(start: f32, end: f32) -> (f32, f32)
-    ensures { result ≡ (spec.lower start end, spec.upper start end) }
-{
-    if start > end {
-        (end, start)
-    } else {
-        (start, end)
+    // From 0 to 1, or from 1 back to 0.
+    #[tactic(auto, unfolding(crate::specs::Trim::is_whole))]
+    fn is_whole(self) -> bool
+        ensures { result ≡ spec.is_whole self.start self.end }
+    {
+        self.is_near(0.0, 1.0) || self.is_near(1.0, 0.0)
+    }
+
+    // The ranges that it shows.
+    #[tactic(auto, unfolding(crate::specs::Trim::ranges_between))]
+    fn ranges(self) -> Ranges
+        ensures { result ≡ spec.ranges_between self.start self.end }
+    {
+        let Span { start, end } = self;
+        if is_near(start, end) {
+            Ranges::Nothing
+        } else if self.is_whole() {
+            Ranges::One(0.0, 1.0)
+        } else if end <= 1.0 {
+            Ranges::One(clamp_unit(start), clamp_unit(end))
+        } else if start >= 1.0 {
+            Ranges::One(clamp_unit(start - 1.0), clamp_unit(end - 1.0))
+        } else {
+            Ranges::Two(clamp_unit(start), clamp_unit(end - 1.0))
+        }
+    }
+
+    // From the lower of the two to the upper.
+    #[tactic(auto, unfolding(crate::specs::Trim::lower, crate::specs::Trim::upper))]
+    fn in_order(self) -> Span
+        ensures { result ≡ record { start = spec.lower self.start self.end; end = spec.upper self.start self.end } }
+    {
+        let Span { start, end } = self;
+        if start > end {
+            Span {
+                start: end,
+                end: start,
+            }
+        } else {
+            self
+        }
+    }
+
+    // Both ends rounded to the step.
+    fn snapped(self) -> Span
+        ensures { result ≡ record { start = spec.snapped self.start; end = spec.snapped self.end } }
+    {
+        Span {
+            start: snapped(self.start),
+            end: snapped(self.end),
+        }
     }
 }
 
@@ -118,25 +143,26 @@ pub fn normalized_trim_segments(trim: TrimStyle) -> Ranges
     let offset = offset_of(trim.offset_degrees);
     let start = placed_at(trim.start, offset);
     let end = placed_at(trim.end, offset);
-    let (lower, upper) = in_order(start, end);
-    ranges_between(snapped(lower), snapped(upper))
+    Span { start, end }.in_order().snapped().ranges()
 }
 
-// Whether the ranges are marked as the whole path.
-#[tactic(auto, unfolding(crate::specs::Trim::is_full_trim_segments))]
-pub fn is_full_trim_segments(ranges: Ranges) -> bool
-    ensures { result ≡ spec.is_full_trim_segments ranges }
-{
-    matches!(ranges, Ranges::One(start, end) if start <= TRIM_STEP && is_near(1.0, end))
-}
+impl Ranges {
+    // Whether they are marked as the whole path: `is_full_trim_segments`.
+    #[tactic(auto, unfolding(crate::specs::Trim::is_full_trim_segments))]
+    pub fn is_full(self) -> bool
+        ensures { result ≡ spec.is_full_trim_segments self }
+    {
+        matches!(self, Ranges::One(start, end) if start <= TRIM_STEP && is_near(1.0, end))
+    }
 
-// How many ranges there are.
-pub fn range_count(ranges: Ranges) -> usize
-    ensures { result ≡ range_count ranges }
-{
-    match ranges {
-        Ranges::Nothing => 0,
-        Ranges::One(_, _) => 1,
-        Ranges::Two(_, _) => 2,
+    // How many there are.
+    pub fn count(self) -> usize
+        ensures { result ≡ range_count self }
+    {
+        match self {
+            Ranges::Nothing => 0,
+            Ranges::One(_, _) => 1,
+            Ranges::Two(_, _) => 2,
+        }
     }
 }

@@ -26,8 +26,8 @@ fn print_ranges<W: Write>(out: &mut W, ranges: Ranges, buffer: &[f32]) -> io::Re
     write!(
         out,
         "{case} {} mark {} ",
-        trim::range_count(ranges),
-        cut::mark_of(ranges)
+        ranges.count(),
+        u32::from(ranges.is_full())
     )?;
     pattern_text::print_floats(out, "numbers", buffer)
 }
