@@ -1,3 +1,4 @@
--- What the proofs of `arc` cite.
+-- What the functions of this crate owe.
 pub mod End
+pub mod Points
 pub mod Ways

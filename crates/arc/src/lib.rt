@@ -2,13 +2,16 @@
 // and by chords between points that are known to be finite.
 #![tactic(auto)]
 
-ghost use Rattle.std.specs.Prelude.{◌≡◌, true, ◌^◌, ◌≤◌, ◌<◌};
+ghost use Rattle.std.specs.Prelude.{◌≡◌, true, ◌^◌, IfSome};
 ghost use Rattle.curve.specs.Curve as spec;
 ghost use Rattle.curve.proofs.Rising.{Inside};
+ghost use Rattle.polyline.proofs.Callers.{quad_finite, cubic_finite};
 ghost use Rattle.flatten.specs.Level.{Coordinates, QuadCoordinates};
 
-use curve::{Cubic, Quad};
+use curve::{Cubic, Quad, Stepped};
+use flatten::{CubicAxis, QuadAxis};
 use point::Point;
+use polyline::FiniteSteps;
 
 // Whether both coordinates of a point are within 2^22, the limit of command lists.
 fn is_inside(p: Point) -> bool
@@ -17,125 +20,221 @@ fn is_inside(p: Point) -> bool
     float::is_within(p.x, 4194304.0) && float::is_within(p.y, 4194304.0)
 }
 
-// The point of a quadratic curve at step / 24.
-fn quad_point(quad: Quad, step: u16) -> Point
-    requires { (1 ≤ step) × (step ≤ 24) }
-    ensures { result ≡ spec.quad_point quad.start quad.control quad.end step }
-{
-    quad.eval(step as f32 / 24.0)
+// A quadratic curve whose points are within the limit.
+#[derive(Clone, Copy)]
+struct InsideQuad {
+    quad: Quad,
+    ghost inside: { ∥ Inside (2 ^ 22) quad.start × Inside (2 ^ 22) quad.control × Inside (2 ^ 22) quad.end ∥₁ },
 }
 
-// The same of a curve whose coordinates are of like size. At the eighths `mul_add` would meet midpoints, and exact sums need
-// no `mul_add`.
-fn level_quad_point(quad: Quad, step: u16) -> Point
-    requires step { (1 ≤ step) × (step ≤ 24) }
-    requires coordinates { QuadCoordinates quad.start.x quad.control.x quad.end.x × QuadCoordinates quad.start.y quad.control.y quad.end.y }
-    ensures { result ≡ spec.quad_point quad.start quad.control quad.end step }
-{
-    let Quad {
-        start,
-        control,
-        end,
-    } = quad;
-    match step {
-        24 => end,
-        _ if step % 3 == 0 => {
-            let eighth = u32::from(step / 3);
-            Point {
-                x: flatten::quad_at(start.x, control.x, end.x, eighth),
-                y: flatten::quad_at(start.y, control.y, end.y, eighth),
-            }
+impl InsideQuad {
+    // The curve as such a one, where it is.
+    fn of(quad: Quad) -> Option<InsideQuad>
+        ensures { IfSome result (λ inside. inside.quad ≡ quad) }
+    {
+        if is_inside(quad.start) && is_inside(quad.control) && is_inside(quad.end) {
+            Some(InsideQuad { quad })
+        } else {
+            None
         }
-        _ => quad_point(quad, step),
     }
 }
 
-// The length of a quadratic curve whose coordinates are of like size.
-fn level_quad(quad: Quad) -> f32
-    requires coordinates { QuadCoordinates quad.start.x quad.control.x quad.end.x × QuadCoordinates quad.start.y quad.control.y quad.end.y }
-    requires inside { Inside (2 ^ 22) quad.start × Inside (2 ^ 22) quad.control × Inside (2 ^ 22) quad.end }
-    ensures { result ≡ spec.quad_length quad.start quad.control quad.end }
-{
-    polyline::length(quad.start, 24, |step| level_quad_point(quad, step))
+impl Stepped for InsideQuad {
+    ghost STEPS = { 24 };
+
+    ghost point = { λ curve. spec.quad_point curve.quad.start curve.quad.control curve.quad.end };
+
+    const STEPS: u16 = 24;
+
+    fn start(self) -> Point {
+        self.quad.start()
+    }
+
+    fn point(self, step: u16) -> Point {
+        self.quad.point(step)
+    }
 }
 
-// The length of a quadratic curve whose points are finite.
-fn inside_quad(quad: Quad) -> f32
-    requires { Inside (2 ^ 22) quad.start × Inside (2 ^ 22) quad.control × Inside (2 ^ 22) quad.end }
-    ensures { result ≡ spec.quad_length quad.start quad.control quad.end }
-{
-    polyline::length(quad.start, 24, |step| quad_point(quad, step))
+impl FiniteSteps for InsideQuad {
+    ghost finite = { λ curve. quad_finite curve.quad.start curve.quad.control curve.quad.end curve.inside };
+}
+
+// A quadratic curve whose points are within the limit, and whose coordinates are of like size along each axis.
+#[derive(Clone, Copy)]
+struct LevelQuad {
+    quad: Quad,
+    ghost inside: { ∥ Inside (2 ^ 22) quad.start × Inside (2 ^ 22) quad.control × Inside (2 ^ 22) quad.end ∥₁ },
+    ghost x: { ∥ QuadCoordinates quad.start.x quad.control.x quad.end.x ∥₁ },
+    ghost y: { ∥ QuadCoordinates quad.start.y quad.control.y quad.end.y ∥₁ },
+}
+
+impl LevelQuad {
+    // The curve as such a one, where it is.
+    fn of(quad: Quad) -> Option<LevelQuad>
+        ensures { IfSome result (λ level. level.quad ≡ quad) }
+    {
+        let Quad {
+            start,
+            control,
+            end,
+        } = quad;
+        let numbers: [f32; 6] = [start.x, start.y, control.x, control.y, end.x, end.y];
+        if flatten::is_level(&numbers) {
+            Some(LevelQuad { quad })
+        } else {
+            None
+        }
+    }
+}
+
+impl Stepped for LevelQuad {
+    ghost STEPS = { 24 };
+
+    ghost point = { λ curve. spec.quad_point curve.quad.start curve.quad.control curve.quad.end };
+
+    const STEPS: u16 = 24;
+
+    fn start(self) -> Point {
+        self.quad.start()
+    }
+
+    // At the eighths `mul_add` would meet midpoints, and exact sums need no `mul_add`.
+    #[tactic(auto, using(crate::proofs::Points::quad_points))]
+    fn point(self, step: u16) -> Point {
+        let Quad {
+            start,
+            control,
+            end,
+        } = self.quad;
+        match step {
+            24 => end,
+            _ if step % 3 == 0 => {
+                let eighth = u32::from(step / 3);
+                let x = QuadAxis {
+                    start: start.x,
+                    control: control.x,
+                    end: end.x,
+                };
+                let y = QuadAxis {
+                    start: start.y,
+                    control: control.y,
+                    end: end.y,
+                };
+                Point {
+                    x: x.at(eighth),
+                    y: y.at(eighth),
+                }
+            }
+            _ => self.quad.point(step),
+        }
+    }
+}
+
+impl FiniteSteps for LevelQuad {
+    ghost finite = { λ curve. quad_finite curve.quad.start curve.quad.control curve.quad.end curve.inside };
 }
 
 // The length of a quadratic curve, by 24 chords.
+#[tactic(auto, unfolding(curve::specs::Curve::quad_length_after))]
 pub fn quad_length(quad: Quad) -> f32
     ensures { result ≡ spec.quad_length quad.start quad.control quad.end }
 {
-    let Quad {
-        start,
-        control,
-        end,
-    } = quad;
-    let numbers: [f32; 6] = [start.x, start.y, control.x, control.y, end.x, end.y];
-    if flatten::is_level(&numbers) {
-        return level_quad(quad);
+    if let Some(level) = LevelQuad::of(quad) {
+        return polyline::length(level);
     }
-    if is_inside(start) && is_inside(control) && is_inside(end) {
-        return inside_quad(quad);
+    if let Some(inside) = InsideQuad::of(quad) {
+        return polyline::length(inside);
     }
     quad.length()
 }
 
-// The point at step / 32 of a cubic curve whose coordinates are of like size.
-fn level_cubic_point(cubic: Cubic, step: u16) -> Point
-    requires step { (1 ≤ step) × (step ≤ 32) }
-    requires coordinates { Coordinates cubic.start.x cubic.control1.x cubic.control2.x cubic.end.x
-        × Coordinates cubic.start.y cubic.control1.y cubic.control2.y cubic.end.y }
-    ensures { result ≡ spec.cubic_point cubic.start cubic.control1 cubic.control2 cubic.end step }
-{
-    let Cubic {
-        start,
-        control1,
-        control2,
-        end,
-    } = cubic;
-    match step {
-        32 => end,
-        _ => {
-            let step = u32::from(step);
-            Point {
-                x: flatten::cubic_at(start.x, control1.x, control2.x, end.x, step),
-                y: flatten::cubic_at(start.y, control1.y, control2.y, end.y, step),
+// A cubic curve whose points are within the limit, and whose coordinates are of like size along each axis.
+#[derive(Clone, Copy)]
+struct LevelCubic {
+    cubic: Cubic,
+    ghost inside: { ∥ Inside (2 ^ 22) cubic.start × Inside (2 ^ 22) cubic.control1 × Inside (2 ^ 22) cubic.control2 × Inside (2 ^ 22) cubic.end ∥₁ },
+    ghost x: { ∥ Coordinates cubic.start.x cubic.control1.x cubic.control2.x cubic.end.x ∥₁ },
+    ghost y: { ∥ Coordinates cubic.start.y cubic.control1.y cubic.control2.y cubic.end.y ∥₁ },
+}
+
+impl LevelCubic {
+    // The curve as such a one, where it is.
+    fn of(cubic: Cubic) -> Option<LevelCubic>
+        ensures { IfSome result (λ level. level.cubic ≡ cubic) }
+    {
+        let Cubic {
+            start,
+            control1,
+            control2,
+            end,
+        } = cubic;
+        let numbers: [f32; 8] = [
+            start.x, start.y, control1.x, control1.y, control2.x, control2.y, end.x, end.y,
+        ];
+        if flatten::is_level(&numbers) {
+            Some(LevelCubic { cubic })
+        } else {
+            None
+        }
+    }
+}
+
+impl Stepped for LevelCubic {
+    ghost STEPS = { 32 };
+
+    ghost point = { λ curve. spec.cubic_point curve.cubic.start curve.cubic.control1 curve.cubic.control2 curve.cubic.end };
+
+    const STEPS: u16 = 32;
+
+    fn start(self) -> Point {
+        self.cubic.start()
+    }
+
+    #[tactic(auto, using(crate::proofs::Points::cubic_points))]
+    fn point(self, step: u16) -> Point {
+        let Cubic {
+            start,
+            control1,
+            control2,
+            end,
+        } = self.cubic;
+        match step {
+            32 => end,
+            _ => {
+                let step = u32::from(step);
+                let x = CubicAxis {
+                    start: start.x,
+                    control1: control1.x,
+                    control2: control2.x,
+                    end: end.x,
+                };
+                let y = CubicAxis {
+                    start: start.y,
+                    control1: control1.y,
+                    control2: control2.y,
+                    end: end.y,
+                };
+                Point {
+                    x: x.at(step),
+                    y: y.at(step),
+                }
             }
         }
     }
 }
 
-// The length of a cubic curve whose coordinates are of like size.
-fn level_cubic(cubic: Cubic) -> f32
-    requires coordinates { Coordinates cubic.start.x cubic.control1.x cubic.control2.x cubic.end.x
-        × Coordinates cubic.start.y cubic.control1.y cubic.control2.y cubic.end.y }
-    requires inside { Inside (2 ^ 22) cubic.start × Inside (2 ^ 22) cubic.control1 × Inside (2 ^ 22) cubic.control2 × Inside (2 ^ 22) cubic.end }
-    ensures { result ≡ spec.cubic_length cubic.start cubic.control1 cubic.control2 cubic.end }
-{
-    polyline::length(cubic.start, 32, |step| level_cubic_point(cubic, step))
+impl FiniteSteps for LevelCubic {
+    ghost finite = { λ curve. cubic_finite curve.cubic.start curve.cubic.control1 curve.cubic.control2 curve.cubic.end curve.inside };
 }
 
 // The length of a cubic curve, by 32 chords.
+#[tactic(auto, unfolding(curve::specs::Curve::cubic_length_after))]
 pub fn cubic_length(cubic: Cubic) -> f32
     ensures { result ≡ spec.cubic_length cubic.start cubic.control1 cubic.control2 cubic.end }
 {
-    let Cubic {
-        start,
-        control1,
-        control2,
-        end,
-    } = cubic;
-    let numbers: [f32; 8] = [
-        start.x, start.y, control1.x, control1.y, control2.x, control2.y, end.x, end.y,
-    ];
-    if flatten::is_level(&numbers) {
-        return level_cubic(cubic);
+    match LevelCubic::of(cubic) {
+        Some(level) => polyline::length(level),
+        None => cubic.length(),
     }
-    cubic.length()
 }

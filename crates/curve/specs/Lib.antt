@@ -1,3 +1,2 @@
 -- Curves and their lengths.
 pub mod Curve
-pub mod Steps

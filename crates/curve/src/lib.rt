@@ -2,14 +2,14 @@
 // drawing_paths.rs.
 #![tactic(auto)]
 
-ghost use Rattle.std.specs.Prelude.{◌≡◌, ℕ};
+ghost use Rattle.std.specs.Prelude.{◌≡◌, ℕ, ◌≤◌};
 ghost use Rattle.point.specs.declared.Point.{Point};
 ghost use Rattle.curve.specs.Curve as spec;
-ghost use Rattle.curve.specs.Steps.{Follows};
 
 use point::Point;
 
-// How far one point is from another.
+// How far one point is from another. Nothing is known of the two ends of a chord together, here and in `polyline`, that a type
+// could say.
 #[tactic(auto, using(crate::proofs::Ways::distance_is))]
 pub fn distance(a: Point, b: Point) -> f32
     ensures { result ≡ spec.distance a b }
@@ -19,15 +19,32 @@ pub fn distance(a: Point, b: Point) -> f32
     root::hypot(dx, dy)
 }
 
-// The length of so many chords from `start` on, each to the point of its step.
-fn by_chords<F: Fn(u16) -> Point>(start: Point, steps: u16, point: F) -> f32
-    requires { F.IsAlwaysCallable point }
-    ensures { (p : ℕ → Point) → Follows (F.post point) steps p → start ≡ p 0 → result ≡ spec.chords p steps }
+// A curve that is walked in steps: its start, and the point of each step. At 0 it is at its start by definition, so a point
+// is asked for from the first step on.
+pub trait Stepped: Copy {
+    ghost STEPS: { ℕ };
+
+    ghost point: { Self → ℕ → Point };
+
+    const STEPS: u16;
+
+    fn start(self) -> Point
+        ensures { result ≡ point self 0 };
+
+    fn point(self, step: u16) -> Point
+        requires { (1 ≤ step) × (step ≤ STEPS) }
+        ensures { result ≡ point self step };
+}
+
+// The length of such a curve: a chord to the point of each step, added up in order.
+#[tactic(auto, using(crate::proofs::Chords::walking))]
+fn by_chords<C: Stepped>(curve: C) -> f32
+    ensures { result ≡ spec.chords (C.point curve) C.STEPS }
 {
     let mut length: f32 = 0.0;
-    let mut last = start;
-    for step in 0..steps {
-        let next = point(step + 1);
+    let mut last = curve.start();
+    for step in 0..C::STEPS {
+        let next = curve.point(step + 1);
         length += distance(last, next);
         last = next;
     }
@@ -66,10 +83,29 @@ impl Quad {
     }
 
     // The length, by 24 chords.
+    #[tactic(auto, unfolding(crate::specs::Curve::quad_length_after))]
     pub fn length(self) -> f32
         ensures { result ≡ spec.quad_length self.start self.control self.end }
     {
-        by_chords(self.start, 24, |step| self.eval(step as f32 / 24.0))
+        by_chords(self)
+    }
+}
+
+impl Stepped for Quad {
+    ghost STEPS = { 24 };
+
+    ghost point = { λ curve. spec.quad_point curve.start curve.control curve.end };
+
+    const STEPS: u16 = 24;
+
+    #[tactic(auto, unfolding(crate::specs::Curve::quad_point))]
+    fn start(self) -> Point {
+        self.start
+    }
+
+    #[tactic(auto, using(crate::proofs::Chords::quad_step))]
+    fn point(self, step: u16) -> Point {
+        self.eval(step as f32 / 24.0)
     }
 }
 
@@ -110,9 +146,28 @@ impl Cubic {
     }
 
     // The length, by 32 chords.
+    #[tactic(auto, unfolding(crate::specs::Curve::cubic_length_after))]
     pub fn length(self) -> f32
         ensures { result ≡ spec.cubic_length self.start self.control1 self.control2 self.end }
     {
-        by_chords(self.start, 32, |step| self.eval(step as f32 / 32.0))
+        by_chords(self)
+    }
+}
+
+impl Stepped for Cubic {
+    ghost STEPS = { 32 };
+
+    ghost point = { λ curve. spec.cubic_point curve.start curve.control1 curve.control2 curve.end };
+
+    const STEPS: u16 = 32;
+
+    #[tactic(auto, unfolding(crate::specs::Curve::cubic_point))]
+    fn start(self) -> Point {
+        self.start
+    }
+
+    #[tactic(auto, using(crate::proofs::Chords::cubic_step))]
+    fn point(self, step: u16) -> Point {
+        self.eval(step as f32 / 32.0)
     }
 }

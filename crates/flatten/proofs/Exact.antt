@@ -1,8 +1,9 @@
 -- A weighted sum of coordinates of like size is a number of one grid, so that binary64 holds it, and cut to 24 digits it is the sum as binary32 rounds it. Assumes nothing.
 use mathlib.Core.Path.{◌≡◌, refl, sym, ap, ◌∙◌, subst}
 use mathlib.Core.Logic.{inl, inr}
+use mathlib.Core.Sum.{⊎_set}
 use Prim.Native.Nat.{ℕ, ◌+◌, ◌-◌, ◌*◌, ◌^◌, ◌≤◌, ◌<◌, zero-le}
-use native.Mathlib.Nat.{le_trans, le_of_eq, lt_of_le_of_lt, lt_irrefl, mul-pos, mul-le-mul_left, mul-le-mul_right, eq-zero-or-pos}
+use native.Mathlib.Nat.{ℕ_set, le_trans, le_of_eq, lt_of_le_of_lt, lt_irrefl, mul-pos, mul-le-mul_left, mul-le-mul_right, eq-zero-or-pos}
 use native.Mathlib.Omega.{arith}
 use mathlib.Core.Bool.{Bool, true, false, not, ◌&&◌, true≢false}
 use lib.Dec.{T, ltb, lit≤}
@@ -26,6 +27,10 @@ use Rattle.ieee.proofs.Pattern.{finite_number}
 use Rattle.narrow.specs.Kept.{Kept}
 use Rattle.flatten.specs.Level.{Level}
 use Rattle.flatten.specs.Weight.{Weight}
+
+-- ---- floats are a set, so an equation of two follows from what is only known to be
+pub float_set : IsSet Float
+float_set = hlevel (⊎_set, ℕ_set)
 
 value_number : (x : Float) (s : Bool) (a c : ℕ) → HasValue x s a c → T (not (is_nan x))
 value_number x s a c v = finite_number x (value_finite x s a c v)

@@ -96,23 +96,23 @@ all_near n top xs Q true long lo m e = record { q = 163 - top / 2 ^ 23; fine = o
 all_near n top xs Q false long lo m e = absurd (true≢false (sym e))
 
 -- ---- as callers of `is_level` meet them: the coordinates of each axis
-module _ (x0 y0 x1 y1 x2 y2 x3 y3 : Float) (r : Bool) (level : r ≡ true → AllNear 8 (x0 ∷ y0 ∷ x1 ∷ y1 ∷ x2 ∷ y2 ∷ x3 ∷ y3 ∷ [])) (passed : r ≡ true) where
-  near_at : (k : ℕ) → k < 8 → Level (level passed).q (get_or (x0 ∷ y0 ∷ x1 ∷ y1 ∷ x2 ∷ y2 ∷ x3 ∷ y3 ∷ []) k nan)
-  near_at k h = ((level passed).near k h).level
+module _ (x0 y0 x1 y1 x2 y2 x3 y3 : Float) (level : AllNear 8 (x0 ∷ y0 ∷ x1 ∷ y1 ∷ x2 ∷ y2 ∷ x3 ∷ y3 ∷ [])) where
+  near_at : (k : ℕ) → k < 8 → Level level.q (get_or (x0 ∷ y0 ∷ x1 ∷ y1 ∷ x2 ∷ y2 ∷ x3 ∷ y3 ∷ []) k nan)
+  near_at k h = (level.near k h).level
 
   pub along_x : Coordinates x0 x1 x2 x3
-  along_x = record { q = (level passed).q; fine = (level passed).fine; start = near_at 0 (omega arith); control1 = near_at 2 (omega arith); control2 = near_at 4 (omega arith); end = near_at 6 (omega arith) }
+  along_x = record { q = level.q; fine = level.fine; start = near_at 0 (omega arith); control1 = near_at 2 (omega arith); control2 = near_at 4 (omega arith); end = near_at 6 (omega arith) }
 
   pub along_y : Coordinates y0 y1 y2 y3
-  along_y = record { q = (level passed).q; fine = (level passed).fine; start = near_at 1 (omega arith); control1 = near_at 3 (omega arith); control2 = near_at 5 (omega arith); end = near_at 7 (omega arith) }
+  along_y = record { q = level.q; fine = level.fine; start = near_at 1 (omega arith); control1 = near_at 3 (omega arith); control2 = near_at 5 (omega arith); end = near_at 7 (omega arith) }
 
 -- ---- those of a quad
-module _ (x0 y0 x1 y1 x2 y2 : Float) (r : Bool) (level : r ≡ true → AllNear 6 (x0 ∷ y0 ∷ x1 ∷ y1 ∷ x2 ∷ y2 ∷ [])) (passed : r ≡ true) where
-  quad_near_at : (k : ℕ) → k < 6 → Level (level passed).q (get_or (x0 ∷ y0 ∷ x1 ∷ y1 ∷ x2 ∷ y2 ∷ []) k nan)
-  quad_near_at k h = ((level passed).near k h).level
+module _ (x0 y0 x1 y1 x2 y2 : Float) (level : AllNear 6 (x0 ∷ y0 ∷ x1 ∷ y1 ∷ x2 ∷ y2 ∷ [])) where
+  quad_near_at : (k : ℕ) → k < 6 → Level level.q (get_or (x0 ∷ y0 ∷ x1 ∷ y1 ∷ x2 ∷ y2 ∷ []) k nan)
+  quad_near_at k h = (level.near k h).level
 
   pub quad_along_x : QuadCoordinates x0 x1 x2
-  quad_along_x = record { q = (level passed).q; fine = (level passed).fine; start = quad_near_at 0 (omega arith); control = quad_near_at 2 (omega arith); end = quad_near_at 4 (omega arith) }
+  quad_along_x = record { q = level.q; fine = level.fine; start = quad_near_at 0 (omega arith); control = quad_near_at 2 (omega arith); end = quad_near_at 4 (omega arith) }
 
   pub quad_along_y : QuadCoordinates y0 y1 y2
-  quad_along_y = record { q = (level passed).q; fine = (level passed).fine; start = quad_near_at 1 (omega arith); control = quad_near_at 3 (omega arith); end = quad_near_at 5 (omega arith) }
+  quad_along_y = record { q = level.q; fine = level.fine; start = quad_near_at 1 (omega arith); control = quad_near_at 3 (omega arith); end = quad_near_at 5 (omega arith) }

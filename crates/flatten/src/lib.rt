@@ -7,18 +7,7 @@ ghost use Rattle.std.specs.Float.Ieee.{mul};
 ghost use Rattle.ieee.specs.Fused.{fma};
 ghost use Rattle.curve.specs.Curve.{quad_at, cubic_at, step_of};
 ghost use Rattle.flatten.specs.Level.{Coordinates, QuadCoordinates, Near, AllNear};
-ghost use Rattle.flatten.specs.Weight.{Weights, QuadWeights};
-
-// The weighted sum of four coordinates, each product and each sum rounded to binary32's 24 digits as `mul_add` rounds it.
-fn weighted(w0: f64, w1: f64, w2: f64, w3: f64, a: f64, b: f64, c: f64, d: f64) -> f32
-    requires { Weights w0 w1 w2 w3 × Coordinates a b c d }
-    ensures { result ≡ fma binary32 w3 d (fma binary32 w2 c (fma binary32 w0 a (mul binary32 w1 b))) }
-{
-    let one = narrow::narrowed(w1 * b);
-    let two = narrow::narrowed(w0 * a + one);
-    let three = narrow::narrowed(w2 * c + two);
-    narrow::narrowed(w3 * d + three) as f32
-}
+ghost use Rattle.flatten.specs.Weight as Weight;
 
 // step / 32.
 #[tactic(auto, using(crate::proofs::Steps::step_casts, crate::proofs::Steps::step_is))]
@@ -29,29 +18,53 @@ fn of_step(step: u32) -> f32
     step as f32 / 32.0
 }
 
-// One coordinate of the point of a cubic at step / 32.
-pub fn cubic_at(a: f32, b: f32, c: f32, d: f32, step: u32) -> f32
-    requires { (0 < step) × (step < 32) × Coordinates a b c d }
-    ensures { result ≡ cubic_at a b c d (step_of 32 step) }
-{
-    let t = of_step(step);
-    let u = 1.0 - t;
-    let w0 = (u * (u * u)) as f64;
-    let w1 = (3.0 * (u * u) * t) as f64;
-    let w2 = (3.0 * u * (t * t)) as f64;
-    let w3 = (t * (t * t)) as f64;
-    weighted(w0, w1, w2, w3, a as f64, b as f64, c as f64, d as f64)
+// What each of the four points of a cubic counts at a step.
+#[derive(Clone, Copy)]
+struct CubicWeights {
+    start: f64,
+    control1: f64,
+    control2: f64,
+    end: f64,
+    ghost weights: { ∥ Weight.Weights start control1 control2 end ∥₁ },
 }
 
-// The weighted sum of three coordinates, rounded as that of four. A part for both would have to promise sums in binary64,
-// which is longer than the sums.
-fn weighted_quad(w0: f64, w1: f64, w2: f64, a: f64, b: f64, c: f64) -> f32
-    requires { QuadWeights w0 w1 w2 × QuadCoordinates a b c }
-    ensures { result ≡ fma binary32 w2 c (fma binary32 w0 a (mul binary32 w1 b)) }
-{
-    let one = narrow::narrowed(w1 * b);
-    let two = narrow::narrowed(w0 * a + one);
-    narrow::narrowed(w2 * c + two) as f32
+// One coordinate of each of the four points of a cubic, of like size.
+#[derive(Clone, Copy)]
+pub struct CubicAxis {
+    pub start: f32,
+    pub control1: f32,
+    pub control2: f32,
+    pub end: f32,
+    pub ghost level: { ∥ Coordinates start control1 control2 end ∥₁ },
+}
+
+impl CubicAxis {
+    // The weighted sum of the four, each product and each sum rounded to binary32's 24 digits as `mul_add` rounds it.
+    #[tactic(auto, using(crate::proofs::Ways::cubic_sums))]
+    fn weighted(self, w: CubicWeights) -> f32
+        ensures { result ≡ fma binary32 w.end self.end (fma binary32 w.control2 self.control2 (fma binary32 w.start self.start (mul binary32 w.control1 self.control1))) }
+    {
+        let one = narrow::narrowed(w.control1 * self.control1 as f64);
+        let two = narrow::narrowed(w.start * self.start as f64 + one);
+        let three = narrow::narrowed(w.control2 * self.control2 as f64 + two);
+        narrow::narrowed(w.end * self.end as f64 + three) as f32
+    }
+
+    // The coordinate of the point at step / 32.
+    #[tactic(auto, using(crate::proofs::Ways::cubic_points))]
+    pub fn at(self, step: u32) -> f32
+        requires { (0 < step) × (step < 32) }
+        ensures { result ≡ cubic_at self.start self.control1 self.control2 self.end (step_of 32 step) }
+    {
+        let t = of_step(step);
+        let u = 1.0 - t;
+        self.weighted(CubicWeights {
+            start: (u * (u * u)) as f64,
+            control1: (3.0 * (u * u) * t) as f64,
+            control2: (3.0 * u * (t * t)) as f64,
+            end: (t * (t * t)) as f64,
+        })
+    }
 }
 
 // eighth / 8, as a step of 24: every third of them.
@@ -63,17 +76,50 @@ fn of_eighth(eighth: u32) -> f32
     (3 * eighth) as f32 / 24.0
 }
 
-// One coordinate of the point of a quad at eighth / 8.
-pub fn quad_at(a: f32, b: f32, c: f32, eighth: u32) -> f32
-    requires { (0 < eighth) × (eighth < 8) × QuadCoordinates a b c }
-    ensures { result ≡ quad_at a b c (step_of 24 (3 * eighth)) }
-{
-    let t = of_eighth(eighth);
-    let u = 1.0 - t;
-    let w0 = (u * u) as f64;
-    let w1 = (2.0 * u * t) as f64;
-    let w2 = (t * t) as f64;
-    weighted_quad(w0, w1, w2, a as f64, b as f64, c as f64)
+// What each of the three points of a quad counts at an eighth.
+#[derive(Clone, Copy)]
+struct QuadWeights {
+    start: f64,
+    control: f64,
+    end: f64,
+    ghost weights: { ∥ Weight.QuadWeights start control end ∥₁ },
+}
+
+// One coordinate of each of the three points of a quad, of like size.
+#[derive(Clone, Copy)]
+pub struct QuadAxis {
+    pub start: f32,
+    pub control: f32,
+    pub end: f32,
+    pub ghost level: { ∥ QuadCoordinates start control end ∥₁ },
+}
+
+impl QuadAxis {
+    // The weighted sum of the three, rounded as that of four. A part for both would have to promise sums in binary64, which
+    // is longer than the sums.
+    #[tactic(auto, using(crate::proofs::Ways::quad_sums))]
+    fn weighted(self, w: QuadWeights) -> f32
+        ensures { result ≡ fma binary32 w.end self.end (fma binary32 w.start self.start (mul binary32 w.control self.control)) }
+    {
+        let one = narrow::narrowed(w.control * self.control as f64);
+        let two = narrow::narrowed(w.start * self.start as f64 + one);
+        narrow::narrowed(w.end * self.end as f64 + two) as f32
+    }
+
+    // The coordinate of the point at eighth / 8.
+    #[tactic(auto, using(crate::proofs::Ways::quad_points))]
+    pub fn at(self, eighth: u32) -> f32
+        requires { (0 < eighth) × (eighth < 8) }
+        ensures { result ≡ quad_at self.start self.control self.end (step_of 24 (3 * eighth)) }
+    {
+        let t = of_eighth(eighth);
+        let u = 1.0 - t;
+        self.weighted(QuadWeights {
+            start: (u * u) as f64,
+            control: (2.0 * u * t) as f64,
+            end: (t * t) as f64,
+        })
+    }
 }
 
 // The bit pattern of x without its sign; a NaN's is larger than any number's.
@@ -87,6 +133,7 @@ fn bare(x: f32) -> u32 {
 }
 
 // Whether x is +0, or of a size not above the pattern `top` and at most 13 binades below it, and is at most 2^22.
+#[tactic(auto, using(crate::proofs::Near::inside_number))]
 fn is_near(x: f32, top: u32) -> bool
     requires { (0x1a80_0000 ≤ top) × (top ≤ 0x4a80_0000) }
     ensures { result ≡ true → Near (163 - top / 2 ^ 23) x }

@@ -10,7 +10,8 @@ mod term;
 use term::Term;
 
 // a * b + c, rounded once, by integers: right everywhere. The smallest product of two floats is 2^214 of the units 2^-512.
-// Written into `mul_add` it would cost the quick way a fifth more time, for registers that it alone uses.
+// Written into `mul_add` it would cost the quick way a fifth more time, for registers that it alone uses. C hands over a, b and c apart, and a
+// type for the three would have nothing to say of them.
 #[cold]
 pub fn mul_add_exact(a: f32, b: f32, c: f32) -> f32
     ensures { result ≡ fma binary32 a b c }

@@ -47,8 +47,8 @@ pub(crate) struct Term {
 impl Term {
     ghost use Rattle.fused.specs.Lifted.{Lifted};
 
-    // The same number with z zeros before the digits of m. It takes up to 63 from e: so that e is 64 or more is no field of a term, but asked
-    // where a term is lifted.
+    // The same number with z zeros before the digits of m. A term may be a zero, which has no first digit, and a lift takes up to 63 from e: so
+    // neither `0 < m` nor `64 ≤ e` is a field, and both are asked where a term is lifted.
     fn lifted(self, z: u64) -> Term
         requires { (0 < self.m) × (self.m < 2 ^ (64 - z)) × (64 ≤ self.e) × (z < 64) }
         ensures moved { Lifted self z result }

@@ -12,7 +12,7 @@ use Rattle.ieee.proofs.Twins.{zero_twin, twin_of, twin_add_absorb}
 use Rattle.command.specs.declared.PathCommand.{PathCommand}
 use Rattle.command.specs.declared.PathCommand.TheVariants.{Move, Line, Cubic, Close, Quad}
 use Rattle.command.specs.Commands.{coordinates_of, numbers_of}
-use Rattle.command.specs.Enlarged.{enlarged, AllOn, CommandTwin, Twins}
+use Rattle.command.specs.Enlarged.{enlarged, AllOn, Twins}
 use Rattle.command.proofs.Enlarged.{twins_take}
 use Rattle.ieee.proofs.Each.{each_split}
 use Rattle.point.specs.declared.Point.{Point}
@@ -97,9 +97,6 @@ module _ {k q b : ℕ} (Q : q + 56 ≤ 149) (B : b + 55 + k ≤ 127) where
     enlarged_twin (Quad ax ay x y) C = quad_to_twin (at_point k C.0 C.1.0) (at_point k C.1.1.0 C.1.1.1.0)
 
   -- ---- a command, and commands one after another
-  pub step_twin : {p p' : Pen} {c c' : PathCommand} → PenTwin k q b p p' → CommandTwin k q b c c' → PenTwin k q b (step p c) (step p' c')
-  step_twin {p} {p'} {c} P C = subst (λ (d : PathCommand). PenTwin k q b (step p c) (step p' d)) (sym C.command) (enlarged_twin P c C.grid)
-
   enlarged_twins : {p p' : Pen} (cs : List PathCommand) → PenTwin k q b p p' → AllOn q b (numbers_of cs) → PenTwin k q b (steps p cs) (steps p' (map (enlarged k) cs))
   unfolding steps
   enlarged_twins {p = p} {p' = p'} [] P C = P

@@ -1,5 +1,4 @@
 -- What the proofs of `measure` cite, the laws of lengths, and closed cases.
-pub mod Ways
 pub mod Enlarged
 pub mod Rising
 pub mod Single

@@ -1,3 +1,2 @@
 -- The length of a path.
 pub mod Length
-pub mod Segment

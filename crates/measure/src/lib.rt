@@ -1,9 +1,7 @@
 // The length of a path, a command at a time: `approx_path_length` of drawing_paths.rs.
 #![tactic(auto)]
 
-ghost use Rattle.std.specs.Prelude.{◌≡◌, Float};
-ghost use Rattle.point.specs.declared.Point.{Point};
-ghost use Rattle.measure.specs.Segment.{Measures};
+ghost use Rattle.std.specs.Prelude.{◌≡◌};
 ghost use Rattle.measure.specs.Length as spec;
 
 use command::PathCommand;
@@ -44,16 +42,12 @@ impl Pen {
         }
     }
 
-    // A segment of the same contour, which is so long from a point. Without a point to come from it adds nothing.
-    fn segment_to<F: FnOnce(Point) -> f32>(self, next: Point, length_from: F) -> Pen
-        requires { F.IsAlwaysCallable length_from }
-        ensures { (segment : Point → Float) → Measures (F.post length_from) segment
-            → result ≡ spec.arrive self next (spec.added self.length self.point segment) }
+    // The pen at the end of a segment of the same contour, after which the length is this: with the segment's own, or without
+    // it where there is no point to come from.
+    #[tactic(auto, unfolding(crate::specs::Length::arrive))]
+    fn arrive(self, next: Point, length: f32) -> Pen
+        ensures { result ≡ spec.arrive self next length }
     {
-        let length = match self.point {
-            Some(p) => self.length + length_from(p),
-            None => self.length,
-        };
         Pen {
             length,
             point: Some(next),
@@ -61,38 +55,50 @@ impl Pen {
         }
     }
 
+    #[tactic(auto, unfolding(crate::specs::Length::line_to, crate::specs::Length::added))]
     fn line_to(self, next: Point) -> Pen
         ensures { result ≡ spec.line_to self next }
     {
-        self.segment_to(next, |start| curve::distance(start, next))
+        let length = self.point.map_or(
+            self.length,
+            |start| self.length + curve::distance(start, next),
+        );
+        self.arrive(next, length)
     }
 
+    #[tactic(auto, unfolding(crate::specs::Length::quad_to, crate::specs::Length::added))]
     fn quad_to(self, control: Point, next: Point) -> Pen
         ensures { result ≡ spec.quad_to self control next }
     {
-        self.segment_to(next, |start| {
-            arc::quad_length(Quad {
+        let length = self.point.map_or(self.length, |start| {
+            let quad = Quad {
                 start,
                 control,
                 end: next,
-            })
-        })
+            };
+            self.length + arc::quad_length(quad)
+        });
+        self.arrive(next, length)
     }
 
+    #[tactic(auto, unfolding(crate::specs::Length::cubic_to, crate::specs::Length::added))]
     fn cubic_to(self, control1: Point, control2: Point, next: Point) -> Pen
         ensures { result ≡ spec.cubic_to self control1 control2 next }
     {
-        self.segment_to(next, |start| {
-            arc::cubic_length(Cubic {
+        let length = self.point.map_or(self.length, |start| {
+            let cubic = Cubic {
                 start,
                 control1,
                 control2,
                 end: next,
-            })
-        })
+            };
+            self.length + arc::cubic_length(cubic)
+        });
+        self.arrive(next, length)
     }
 
     // Back to where the contour started.
+    #[tactic(auto, unfolding(crate::specs::Length::close, crate::specs::Length::closing, crate::specs::Length::line_to, crate::specs::Length::arrive))]
     fn close(self) -> Pen
         ensures { result ≡ spec.close self }
     {
@@ -106,6 +112,7 @@ impl Pen {
     }
 
     // The pen after one more command.
+    #[tactic(auto, unfolding(crate::specs::Length::step))]
     pub fn step(self, command: PathCommand) -> Pen
         ensures { result ≡ spec.step self command }
     {

@@ -4,9 +4,9 @@
 ghost use Rattle.std.specs.Prelude.{◌≡◌, ℕ, ◌≤◌, IfSome};
 ghost use Rattle.point.specs.declared.Point.{Point};
 ghost use Rattle.curve.specs.Curve.{distance, chords};
-ghost use Rattle.curve.specs.Steps.{Follows};
-ghost use Rattle.polyline.specs.Polyline.{IsFinite, Finite};
+ghost use Rattle.polyline.specs.Polyline.{IsFinite};
 
+use curve::Stepped;
 use point::Point;
 use root::Candidate;
 
@@ -36,18 +36,21 @@ fn between(a: Point, b: Point) -> f32
     quick(a, b).unwrap_or_else(|| curve::distance(a, b))
 }
 
-// The length of so many chords from `start` on, each to the point of its step, where the points are finite. `curve` has the
-// same loop for any points: one for both would need a promise about pairs of points that is longer than the loop.
-pub fn length<F: Fn(u16) -> Point>(start: Point, steps: u16, point: F) -> f32
-    requires callable { (k : ℕ) → 1 ≤ k → k ≤ steps → F.pre point k }
-    requires first { IsFinite start }
-    requires finite { Finite (F.post point) steps }
-    ensures { (p : ℕ → Point) → Follows (F.post point) steps p → start ≡ p 0 → result ≡ chords p steps }
+// A curve in steps whose points are finite.
+pub trait FiniteSteps: Stepped {
+    ghost finite: { (curve : Self) (k : ℕ) → k ≤ Self.Stepped.STEPS → IsFinite (Self.Stepped.point curve k) };
+}
+
+// The length of such a curve, by a chord to the point of each step. `curve` has the same loop for any points: one for both
+// would need a promise about pairs of points that is longer than the loop.
+#[tactic(auto, using(curve::proofs::Chords::walking))]
+pub fn length<C: FiniteSteps>(curve: C) -> f32
+    ensures { result ≡ chords (C.point curve) C.STEPS }
 {
     let mut length: f32 = 0.0;
-    let mut last = start;
-    for step in 0..steps {
-        let next = point(step + 1);
+    let mut last = curve.start();
+    for step in 0..C::STEPS {
+        let next = curve.point(step + 1);
         length += between(last, next);
         last = next;
     }
