@@ -135,8 +135,10 @@ impl FiniteSteps for LevelQuad {
     ghost finite = { λ curve. quad_finite curve.quad.start curve.quad.control curve.quad.end curve.inside };
 }
 
-// The length of a quadratic curve, by 24 chords.
+// The length of a quadratic curve, by 24 chords. It and `cubic_length` are calls of their own, so that the walk over a list, where
+// most commands may be lines, stays small.
 #[tactic(auto, unfolding(curve::specs::Curve::quad_length_after))]
+#[inline(never)]
 pub fn quad_length(quad: Quad) -> f32
     ensures { result ≡ spec.quad_length quad.start quad.control quad.end }
 {
@@ -230,6 +232,7 @@ impl FiniteSteps for LevelCubic {
 
 // The length of a cubic curve, by 32 chords.
 #[tactic(auto, unfolding(curve::specs::Curve::cubic_length_after))]
+#[inline(never)]
 pub fn cubic_length(cubic: Cubic) -> f32
     ensures { result ≡ spec.cubic_length cubic.start cubic.control1 cubic.control2 cubic.end }
 {
