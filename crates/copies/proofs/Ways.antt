@@ -3,7 +3,7 @@
 use Rattle.std.specs.Prelude.{Ok, Err}
 use mathlib.Core.Path.{◌≡◌, refl, sym, ap, ◌∙◌, subst}
 use mathlib.Core.Bool.{Bool, true, false, cond, not, ◌||◌, true≢false, and-eq-true_iff}
-use mathlib.Core.List.{List, [], ◌∷◌, ◌++◌}
+use mathlib.Core.List.{List, [], ◌∷◌}
 use Prim.Native.Nat.{ℕ, zero, suc, ◌+◌, ◌-◌, ◌*◌, ◌^◌, ◌≤◌, ◌<◌, zero-le}
 use native.Mathlib.Nat.{add-zero, zero-add, mul-one, le_trans, le_of_suc-le-suc, not-suc-le-zero}
 use native.Mathlib.Numerals.{add-one}
@@ -13,9 +13,9 @@ use lib.Ieee.{Float, nan, inf, fin, lt, le, up, down, of_bits, of_fields}
 use lib.Ieee.Bits.{is_true}
 use lib.Ieee.Exact.{HasValue}
 use lib.Ieee.Fits.{down_pos}
-use lib.ListN.{length, get_or, drop, set, length-set, drop_of_length-le}
+use lib.ListN.{length, get_or, drop, set, drop_of_length-le}
 use lib.Seq.{sets, drop-cons}
-use borrow.Author.Tests.{eq-eqb, ne_eqb, lt-ltb, le-ltb, le-leb, lt-leb, not-false}
+use borrow.Author.Tests.{eq-eqb, ne_eqb, not-false}
 use Rattle.ieee.specs.Literal.{number_limit}
 use Rattle.ieee.specs.Sign.{abs, is_number}
 use Rattle.ieee.specs.Limit.{within, all_within, Bounded}
@@ -25,18 +25,15 @@ use Rattle.ieee.proofs.Order.{le_number_l, not_lt→le}
 use Rattle.ieee.proofs.Whole.{up_mono}
 use Rattle.count.specs.Count.{count_up, count_limit}
 use Rattle.command.specs.declared.Refusal.{Refusal}
-use Rattle.command.specs.declared.Refusal.TheVariants.{NoSuchCopy, NotFinite, BufferTooSmall}
-use Rattle.command.specs.Refusals.{refusal_number}
+use Rattle.command.specs.declared.Refusal.TheVariants.{NotFinite}
 use Rattle.command.specs.Outcomes.{Outcome, number_of, value_or, ◌gives◌, checked, AllPass}
 use Rattle.command.specs.Buffers.{fitted, in_buffer, Filled}
-use Rattle.command.proofs.Buffers.{fitted_accepted, fitted_refused, unfilled, filled}
-use Rattle.matrix.specs.declared.Matrix.{Matrix}
 use Rattle.repeater.specs.declared.RepeaterStyle.{RepeaterStyle}
-use Rattle.repeater.specs.Repeater.{most_copies, most_offset, copy_count, copy_transform, copy_opacity}
+use Rattle.repeater.specs.Repeater.{most_copies, most_offset, copy_count}
 use Rattle.command.proofs.Verdicts.{behind_refused, behind_passed, all_pass}
 use Rattle.copies.specs.Order.{rising, falling, order_of, copy_order}
 use Rattle.copies.specs.Calls.{repeater_numbers, has_too_many, repeater_limit, repeater_checks}
-use Rattle.copies.specs.Calls.{order_answer, copy_numbers, all_finite, copy_answer, transform_answer}
+use Rattle.copies.specs.Calls.{order_answer, all_finite, copy_answer, transform_answer}
 
 -- ---- copy_at
 rising_at : (i n place : ℕ) → place < n → i + place ≡ get_or (rising i n) place 0
@@ -62,7 +59,7 @@ module _ (mode n place : ℕ) (h : place < n) where
 
 pub ruleset places = (at_rising, at_falling)
 
--- ---- put_order
+-- ---- put
 rising_length : (i n : ℕ) → length (rising i n) ≡ n
 unfolding rising
 rising_length i zero = refl
@@ -73,7 +70,7 @@ unfolding falling
 falling_length zero = refl
 falling_length (suc n) = ap suc (falling_length n)
 
-order_length : (mode n : ℕ) → length (order_of mode n) ≡ n
+pub order_length : (mode n : ℕ) → length (order_of mode n) ≡ n
 unfolding order_of
 order_length mode n = go (eqb mode 1)
   where
@@ -81,63 +78,15 @@ order_length mode n = go (eqb mode 1)
     go true = rising_length 0 n
     go false = falling_length n
 
--- the numbers from a place on, written on the list as it is, give the whole on the list as it was
-pub record Putting (xs l₀ l : List ℕ) (i : ℕ) : Type 0 where
-  pub rest : sets l i (drop i xs) ≡ sets l₀ 0 xs
-  pub inside : i ≤ length xs
-  pub room : length xs ≤ length l
+-- the numbers from a place on, written from there
+module _ (xs l : List ℕ) (i : ℕ) where
+  pub rest_next : i < length xs → sets (set l i (get_or xs i 0)) (i + 1) (drop (i + 1) xs) ≡ sets l i (drop i xs)
+  rest_next h = rw (add-one, drop-cons xs i 0 h)
 
-module _ (mode n : ℕ) where
-  abbrev order : List ℕ
-  order = order_of mode n
+  pub rest_none : length xs ≤ i → sets l i (drop i xs) ≡ l
+  rest_none h = rw (drop_of_length-le xs {i = i} h)
 
-  pub putting_start : (l : List ℕ) → n ≤ length l → Putting order l l 0
-  putting_start l h = record { rest = refl; inside = omega arith; room = rw (order_length mode n) h }
-
-  module _ (l₀ l : List ℕ) (i : ℕ) (P : Putting order l₀ l i) where
-    pub putting_place : i < n → i < length l
-    putting_place h = let a = P.room in let e = order_length mode n in omega arith
-
-    pub putting_next : i < n → (x : ℕ) → x ≡ get_or order i 0 → Putting order l₀ (set l i x) (i + 1)
-    putting_next h x x_is = record {
-      rest =
-          let there : i < length order = rw (order_length mode n) h in
-          rw (add-one, x_is) (sym (ap (sets l i) (drop-cons order i 0 there)) ∙ P.rest);
-      inside = let e = order_length mode n in omega arith;
-      room = let a = P.room in rw (length-set) a;
-    }
-
-    pub putting_end : n ≤ i → l ≡ sets l₀ 0 order
-    putting_end h =
-        let past : length order ≤ i = rw (order_length mode n) h in
-        ap (sets l i) (sym (drop_of_length-le order {i = i} past)) ∙ P.rest
-
-pub ruleset puttings = (putting_start, putting_place, putting_next, putting_end)
-
--- ---- the last check
-module _ {A : Type 0} (l : List A) where
-  module _ (xs : List A) (n : ℕ) (n_is : length xs ≡ n) where
-    fits : n ≤ length l → (l' : List A) → l' ≡ sets l 0 xs → Filled (fitted (in_buffer (length l)) (Ok xs)) 0 n l l'
-    fits h l' e =
-        let room : length xs ≤ length l = rw n_is h in
-        rw (fitted_accepted (in_buffer (length l)) xs (le-leb (length xs) (length l) room)) (filled xs l l' n room (sym n_is) e)
-
-    short : length l < n → Filled (fitted (in_buffer (length l)) (Ok xs)) (refusal_number BufferTooSmall) 0 l l
-    short h = rw (fitted_refused (in_buffer (length l)) xs (lt-leb (length xs) (length l) (rw n_is h))) (unfilled BufferTooSmall l)
-
-  turned_back : (r : Refusal) (o : Outcome (List A)) → o ≡ Err r → Filled (fitted (in_buffer (length l)) o) (refusal_number r) 0 l l
-  unfolding fitted
-  turned_back r o e = rw e (unfilled r l)
-
--- ---- write_order
-module _ (mode n : ℕ) (l : List ℕ) where
-  pub order_written : (l' : List ℕ) → l' ≡ sets l 0 (order_of mode n) → n ≤ length l → Filled (fitted (in_buffer (length l)) (Ok (order_of mode n))) 0 n l l'
-  order_written l' e h = fits l (order_of mode n) n (order_length mode n) h l' e
-
-  pub order_short : length l < n → Filled (fitted (in_buffer (length l)) (Ok (order_of mode n))) (refusal_number BufferTooSmall) 0 l l
-  order_short h = short l (order_of mode n) n (order_length mode n) h
-
-pub ruleset writes = (order_written, order_short)
+pub ruleset puttings = (order_length, rest_next, rest_none)
 
 -- ---- a repeater that passes its checks
 most_value : HasValue most_copies false 4096 1
@@ -203,63 +152,48 @@ module _ (r : RepeaterStyle) (pass : AllPass (repeater_checks r)) where
   count_few = few r.copies (within_number r.copies copies_within) not_many.0
 
 -- ---- copy_order, copy_transform
-module _ (r : RepeaterStyle) (v : Outcome (Unit {0})) (v_is : v ≡ checked (repeater_checks r) (Ok tt)) where
-  module _ (f : Refusal) (e : v ≡ Err f) where
-    pub order_refused : (l : List ℕ) → Filled (fitted (in_buffer (length l)) (order_answer r)) (refusal_number f) 0 l l
+module _ (r : RepeaterStyle) where
+  abbrev checks : Outcome (Unit {0})
+  checks = checked (repeater_checks r) (Ok tt)
+
+  module _ (f : Refusal) (e : checks ≡ Err f) where
+    pub order_turned : order_answer r ≡ Err f
     unfolding order_answer
-    order_refused l = turned_back l f (order_answer r) (behind_refused (repeater_checks r) v v_is f e (Ok (copy_order r)))
+    order_turned = behind_refused (repeater_checks r) checks refl f e (Ok (copy_order r))
 
-    pub copy_refused : (copy : ℕ) (l : List Float) → Filled (fitted (in_buffer (length l)) (transform_answer r copy)) (refusal_number f) 0 l l
+    pub copy_turned : (copy : ℕ) → transform_answer r copy ≡ Err f
     unfolding transform_answer
-    copy_refused copy l = turned_back l f (transform_answer r copy) (behind_refused (repeater_checks r) v v_is f e (copy_answer r copy))
+    copy_turned copy = behind_refused (repeater_checks r) checks refl f e (copy_answer r copy)
 
-  module _ (e : v ≡ Ok tt) where
-    pub repeater_passed : AllPass (repeater_checks r)
-    repeater_passed = all_pass (repeater_checks r) v v_is e
+  module _ (e : checks ≡ Ok tt) where
+    pub passed : AllPass (repeater_checks r)
+    passed = all_pass (repeater_checks r) checks refl e
 
-    pub order_few : (n : ℕ) → n ≡ copy_count r → n ≤ 4096
-    order_few n n_is = rw n_is (count_few r repeater_passed)
+    pub order_given : order_answer r ≡ Ok (order_of r.mode (copy_count r))
+    unfolding order_answer copy_order
+    order_given = behind_passed (repeater_checks r) checks refl e (Ok (copy_order r))
 
-    module _ (number count : ℕ) where
-      pub order_passed : (n : ℕ) → n ≡ copy_count r → (l l' : List ℕ) → Filled (fitted (in_buffer (length l)) (Ok (order_of r.mode n))) number count l l'
-          → Filled (fitted (in_buffer (length l)) (order_answer r)) number count l l'
-      unfolding order_answer copy_order
-      order_passed n n_is l l' F = rw (behind_passed (repeater_checks r) v v_is e (Ok (copy_order r)), ← n_is) F
+    pub copy_given : (copy : ℕ) → transform_answer r copy ≡ copy_answer r copy
+    unfolding transform_answer
+    copy_given copy = behind_passed (repeater_checks r) checks refl e (copy_answer r copy)
 
-      pub copy_passed : (copy : ℕ) (l l' : List Float) → Filled (fitted (in_buffer (length l)) (copy_answer r copy)) number count l l'
-          → Filled (fitted (in_buffer (length l)) (transform_answer r copy)) number count l l'
-      unfolding transform_answer
-      copy_passed copy l l' F = rw (behind_passed (repeater_checks r) v v_is e (copy_answer r copy)) F
+    pub order_small : copy_count r ≤ 4096
+    order_small = count_few r passed
 
-pub ruleset calls = (order_refused, copy_refused, repeater_passed, copies_within, order_few, order_passed, copy_passed)
+    pub copies_sound : within count_limit r.copies ≡ true
+    copies_sound = copies_within r passed
 
--- ---- write_copy
+pub ruleset orders = (order_turned, order_given, order_small, copies_sound)
+
+pub ruleset transforms = (copy_turned, copy_given, passed)
+
+-- ---- the numbers of a copy
 -- numbers, refused where one is not finite
 abbrev pub finite_only : List Float → Outcome (List Float)
 finite_only xs = checked ((not (all_finite xs) gives NotFinite) ∷ []) (Ok xs)
 
-module _ (xs : List Float) (n_is : length xs ≡ 7) (x : Bool) (x_is : x ≡ all_finite xs) (l : List Float) where
-  pub copy_burst : x ≡ false → Filled (fitted (in_buffer (length l)) (finite_only xs)) (refusal_number NotFinite) 0 l l
-  copy_burst t = turned_back l NotFinite (finite_only xs) (rw (sym x_is ∙ t))
-
-  module _ (t : x ≡ true) where
-    pub copy_short : length l < 7 → Filled (fitted (in_buffer (length l)) (finite_only xs)) (refusal_number BufferTooSmall) 0 l l
-    copy_short h = rw (sym x_is ∙ t) (short l xs 7 n_is h)
-
-    pub copy_written : 7 ≤ length l → (ys : List Float) → ys ≡ xs → Filled (fitted (in_buffer (length l)) (finite_only xs)) 0 7 l (ys ++ drop 7 l)
-    copy_written h ys e =
-        let room : length xs ≤ length l = rw n_is h in
-        rw (sym x_is ∙ t, fitted_accepted (in_buffer (length l)) xs (le-leb (length xs) (length l) room))
-        (record { number_is = refl; count_is = sym n_is; content_is = (λ i. e i ++ drop (sym n_is i) l) })
-
-pub ruleset written = (copy_burst, copy_short, copy_written)
-
 -- ---- write_sound
 module _ (r : RepeaterStyle) (pass : AllPass (repeater_checks r)) (n : ℕ) (n_is : n ≡ copy_count r) (copy : ℕ) where
-  pub copy_missing : n ≤ copy → (l : List Float) → Filled (fitted (in_buffer (length l)) (copy_answer r copy)) (refusal_number NoSuchCopy) 0 l l
-  unfolding copy_answer
-  copy_missing h l = turned_back l NoSuchCopy (copy_answer r copy) (rw (le-ltb copy (copy_count r) (subst (λ (k : ℕ). k ≤ copy) n_is h)))
-
   module _ (h : copy < n) where
     pub copy_few : copy ≤ 4096
     copy_few = let a = count_few r pass in omega arith
@@ -267,13 +201,7 @@ module _ (r : RepeaterStyle) (pass : AllPass (repeater_checks r)) (n : ℕ) (n_i
     pub copy_small : copy ≤ 2 ^ 24
     copy_small = let a = copy_few in le_trans a (lit≤ tt)
 
-    pub copy_told : (m : Matrix) (o : Float) → m ≡ copy_transform r copy → o ≡ copy_opacity r copy → (number count : ℕ) (l l' : List Float)
-        → Filled (fitted (in_buffer (length l)) (finite_only (m.a ∷ m.b ∷ m.c ∷ m.d ∷ m.e ∷ m.f ∷ o ∷ []))) number count l l'
-        → Filled (fitted (in_buffer (length l)) (copy_answer r copy)) number count l l'
-    unfolding copy_answer copy_numbers
-    copy_told m o m_is o_is number count l l' F = rw (lt-ltb copy (copy_count r) (subst (λ (k : ℕ). copy < k) n_is h), ← m_is, ← o_is) F
-
-pub ruleset sounds = (copies_within, offset_within, rotation_within, copy_missing, copy_few, copy_small, copy_told)
+pub ruleset sounds = (copies_within, offset_within, rotation_within, copy_few, copy_small)
 
 -- ---- callers that tell the answer in a number and a count
 module _ (r r' : RepeaterStyle) (e : r ≡ r') (w : Outcome ℕ) (number count : ℕ) (number_is : number ≡ number_of w) (count_is : count ≡ value_or 0 w) where

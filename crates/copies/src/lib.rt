@@ -82,53 +82,69 @@ pub fn check_repeater(repeater: RepeaterStyle) -> Outcome<()>
     Ok(())
 }
 
-// The copy at a place of the order of n copies: that of the place's number in mode 1, else counted from the last.
-// Any other number is a mode too, which draws from the last on, so a mode is no enum.
-#[tactic(auto, using(crate::proofs::Ways::places))]
-fn copy_at(mode: u8, n: usize, place: usize) -> u32
-    requires { (place < n) × (n ≤ 4096) }
-    ensures { result ≡ get_or (order_of mode n) place 0 }
-{
-    let copy = if mode == 1 { place } else { n - 1 - place };
-    copy as u32
+// The order in which copies are drawn.
+#[derive(Clone, Copy)]
+struct Order {
+    // In mode 1 from the first on. Any other number is a mode too, from the last on, so a mode is no enum.
+    mode: u8,
+    // How many there are.
+    count: u32,
+    ghost few: { count ≤ 4096 },
 }
 
-// The order of n copies from the start of a list.
-#[tactic(auto, using(crate::proofs::Ways::puttings))]
-fn put_order(mode: u8, n: usize, order: &mut [u32])
-    requires { (n ≤ length order.old) × (n ≤ 4096) }
-    ensures { order.new ≡ sets order.old 0 (order_of mode n) }
-{
-    for place in 0..n {
-        order[place] = copy_at(mode, n, place);
+impl Order {
+    // The copy at a place.
+    #[tactic(auto, using(crate::proofs::Ways::places))]
+    fn copy_at(self, place: u32) -> u32
+        requires { place < self.count }
+        ensures { result ≡ get_or (order_of self.mode self.count) place 0 }
+    {
+        if self.mode == 1 {
+            place
+        } else {
+            self.count - 1 - place
+        }
     }
-}
 
-// The order of n copies, if it fits.
-fn write_order(mode: u8, n: usize, order: &mut [u32]) -> Outcome<usize>
-    requires { n ≤ 4096 }
-    ensures { Filled
-        (fitted (in_buffer (length order.old)) (Ok (order_of mode n)))
-        (number_of result) (value_or 0 result) order.old order.new }
-{
-    if n <= order.len() {
-        put_order(mode, n, order);
-        Ok(n)
-    } else {
-        Err(Refusal::BufferTooSmall)
+    // Puts it down from the start of a list.
+    #[tactic(auto, using(crate::proofs::Ways::puttings))]
+    fn put(self, order: &mut [u32])
+        requires { self.count ≤ length order.old }
+        ensures { order.new ≡ sets order.old 0 (order_of self.mode self.count) }
+    {
+        for place in 0..self.count {
+            order[place as usize] = self.copy_at(place);
+        }
+    }
+
+    // Puts it down if it fits.
+    #[tactic(auto, using(command::proofs::Buffers::sets_onto, crate::proofs::Ways::order_length), unfolding(command::specs::Buffers::fitted))]
+    fn write(self, order: &mut [u32]) -> Outcome<usize>
+        ensures { Filled
+            (fitted (in_buffer (length order.old)) (Ok (order_of self.mode self.count)))
+            (number_of result) (value_or 0 result) order.old order.new }
+    {
+        let count = self.count as usize;
+        if count <= order.len() {
+            self.put(order);
+            Ok(count)
+        } else {
+            Err(Refusal::BufferTooSmall)
+        }
     }
 }
 
 // The order of a repeater's copies.
-#[tactic(auto, using(crate::proofs::Ways::calls))]
+#[tactic(auto, using(crate::proofs::Ways::orders), unfolding(command::specs::Buffers::fitted))]
 pub fn copy_order(repeater: RepeaterStyle, order: &mut [u32]) -> Outcome<usize>
     ensures { Filled
         (fitted (in_buffer (length order.old)) (spec.order_answer repeater))
         (number_of result) (value_or 0 result) order.old order.new }
 {
     check_repeater(repeater)?;
-    let n = repeater.copy_count();
-    write_order(repeater.mode, n as usize, order)
+    let count = repeater.copy_count() as u32;
+    let mode = repeater.mode;
+    Order { mode, count }.write(order)
 }
 
 // Whether all numbers are finite.
@@ -139,6 +155,7 @@ fn are_finite(numbers: &[f32]) -> bool
 }
 
 // The numbers of a copy, if they are finite and fit.
+#[tactic(auto, unfolding(command::specs::Buffers::fitted))]
 fn write_copy(numbers: &[f32; 7], matrix: &mut [f32]) -> Outcome<usize>
     ensures { Filled
         (fitted (in_buffer (length matrix.old))
@@ -156,7 +173,7 @@ fn write_copy(numbers: &[f32; 7], matrix: &mut [f32]) -> Outcome<usize>
 }
 
 // The numbers of one copy of a sound repeater.
-#[tactic(auto, using(crate::proofs::Ways::sounds))]
+#[tactic(auto, using(crate::proofs::Ways::sounds), unfolding(command::specs::Buffers::fitted, crate::specs::Calls::copy_answer, crate::specs::Calls::copy_numbers))]
 fn write_sound(repeater: RepeaterStyle, copy: usize, matrix: &mut [f32]) -> Outcome<usize>
     requires { AllPass (spec.repeater_checks repeater) }
     ensures { Filled
@@ -173,7 +190,7 @@ fn write_sound(repeater: RepeaterStyle, copy: usize, matrix: &mut [f32]) -> Outc
 }
 
 // The numbers of one copy.
-#[tactic(auto, using(crate::proofs::Ways::calls))]
+#[tactic(auto, using(crate::proofs::Ways::transforms), unfolding(command::specs::Buffers::fitted))]
 pub fn copy_transform(repeater: RepeaterStyle, copy: usize, matrix: &mut [f32]) -> Outcome<usize>
     ensures { Filled
         (fitted (in_buffer (length matrix.old)) (spec.transform_answer repeater copy))

@@ -1,12 +1,10 @@
 -- `copies::copy_transform` meets its contract. Assumes nothing.
-use Rattle.std.proofs.lemmas.Result.{err_from_is_err_and}
-use Rattle.copies.proofs.Ways.{copy_refused, copy_passed}
+use borrow.Author.Rules.{rules}
+use mathlib.Core.Path.{sym, ◌∙◌}
+use Rattle.command.specs.Buffers.{fitted}
+use Rattle.copies.proofs.Ways.{copy_turned}
 use Rattle.copies.proofs.copy_transform.Goals as goal
 
 pub returns-in_err-check_repeater : goal.returns-in_err-check_repeater
-returns-in_err-check_repeater c =
-    let p = err_from_is_err_and c.from_residual.result c.from_residual.ensures.1 in
-    rw (p.1, p.2) (copy_refused c.args.repeater c.check_repeater.result c.check_repeater.ensures _ c.in_err-check_repeater.was _ _)
-
-pub returns : goal.returns
-returns c = copy_passed _ _ c.check_repeater.ensures c.in_ok-check_repeater.was _ _ _ _ _ c.write_sound.ensures
+unfolding fitted
+returns-in_err-check_repeater c = rw (copy_turned c.args.repeater _ (sym c.check_repeater.ensures ∙ c.in_err-check_repeater.was) c.args.copy) (search rules)

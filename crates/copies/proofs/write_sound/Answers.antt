@@ -3,11 +3,5 @@ use borrow.Author.Rules.{rules}
 use Rattle.copies.proofs.Ways.{sounds}
 use Rattle.copies.proofs.write_sound.Goals as goal
 
-pub returns-then-k-copy_count : goal.returns-then-k-copy_count
-returns-then-k-copy_count c = search (rules, sounds)
-
 pub copy_transform-m-requires : goal.copy_transform-m-requires
 copy_transform-m-requires c = search (rules, sounds)
-
-pub returns : goal.returns
-returns c = search (rules, sounds)
