@@ -60,7 +60,8 @@ pub struct Quad {
 }
 
 impl Quad {
-    // The point at t.
+    // The point at t. It is written into each loop: called, it would take the curve from memory at each step.
+    #[inline(always)]
     #[tactic(auto, using(crate::proofs::Ways::quad_is))]
     pub fn eval(self, t: f32) -> Point
         ensures { result ≡ spec.eval_quad self.start self.control self.end t }
@@ -103,6 +104,7 @@ impl Stepped for Quad {
         self.start
     }
 
+    #[inline(always)]
     #[tactic(auto, using(crate::proofs::Chords::quad_step))]
     fn point(self, step: u16) -> Point {
         self.eval(step as f32 / 24.0)
