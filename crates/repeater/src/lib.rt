@@ -81,13 +81,6 @@ fn step_matrix(shift: Point, anchor: Point, degrees: f32, scale: Point) -> Matri
         .pre_translate(back)
 }
 
-// So many steps, one after another.
-fn plain_steps(n: u64, step: Matrix) -> Matrix
-    ensures { result ≡ spec.steps n step }
-{
-    (0..n).fold(Matrix::identity(), |transform, _| transform.concat(step))
-}
-
 // Whether a matrix neither turns nor mirrors: b and c are zeros, and a and d are above zero.
 #[tactic(auto, unfolding(crate::specs::Upright::is_upright))]
 fn is_upright(m: Matrix) -> bool
@@ -111,32 +104,25 @@ fn upright_concat(m: Matrix, n: Matrix) -> Matrix
     }
 }
 
-// So many steps that neither turn nor mirror. They are right where the scale is finite at the end.
-fn upright_steps(n: u64, step: Matrix) -> Matrix
-    ensures { result ≡ upright.upright_steps n step }
-{
-    (0..n).fold(
-        Matrix::identity(),
-        |transform, _| upright_concat(transform, step),
-    )
-}
-
-// So many steps, by the quick way where it is right.
-#[tactic(auto, using(crate::proofs::Quickly::upright_all))]
+// So many steps, one after another. Those that neither turn nor mirror are taken by the quick product, which is right where
+// the scale is finite at the end.
 fn steps(n: u64, step: Matrix) -> Matrix
     ensures { result ≡ spec.steps n step }
 {
     if is_upright(step) {
-        let quick = upright_steps(n, step);
+        let quick = (0..n).fold(
+            Matrix::identity(),
+            |transform, _| upright_concat(transform, step),
+        );
         if float::is_finite(quick.a) && float::is_finite(quick.d) {
             return quick;
         }
     }
-    plain_steps(n, step)
+    (0..n).fold(Matrix::identity(), |transform, _| transform.concat(step))
 }
 
 // The opacity of one copy of so many.
-#[tactic(auto, unfolding(crate::specs::Repeater::opacity_of))]
+#[tactic(auto, using(crate::proofs::Ways::of_whole), unfolding(crate::specs::Repeater::opacity_of))]
 fn opacity_of(start: f32, end: f32, count: u64, copy: u64) -> f32
     requires { (count ≤ 2 ^ 24) × (copy ≤ 2 ^ 24) }
     ensures { result ≡ spec.opacity_of start end count copy }
@@ -168,6 +154,7 @@ impl RepeaterStyle {
     }
 
     // So many steps and a part of one. At most 2^-23 in absolute value is none.
+    #[tactic(auto, using(crate::proofs::Ways::iterating), unfolding(crate::specs::Repeater::iteration_transform))]
     fn iteration_transform(self, iteration: f32) -> Matrix
         requires { (within count_limit iteration ≡ true) × (within number_limit self.rotation ≡ true) }
         ensures { result ≡ spec.iteration_transform self iteration }
@@ -192,6 +179,7 @@ impl RepeaterStyle {
     }
 
     // The matrix of one copy.
+    #[tactic(auto, using(crate::proofs::Ways::copying), unfolding(crate::specs::Repeater::copy_transform))]
     pub fn copy_transform(self, copy: u64) -> Matrix
         requires { (within spec.most_offset self.offset ≡ true) × (within number_limit self.rotation ≡ true) × (copy ≤ 4096) }
         ensures { result ≡ spec.copy_transform self copy }
