@@ -4,9 +4,8 @@
 
 ghost use Rattle.std.specs.Prelude.{◌≡◌, ◌%◌, ◌≤◌, length, get_or, drop, min, IfOk};
 
-use command::{Outcome, Refusal, Size};
-use std::alloc::Global;
-use std::io::{BufRead, BufReader, Read, Write};
+use command::{Outcome, Size};
+use std::io::{BufRead, BufReader, Read};
 use std::num::f32_from_bits_with_nan;
 use std::{fmt, io};
 
@@ -41,17 +40,18 @@ impl Call<'_> {
         self.patterns.get(place).copied().unwrap_or(0)
     }
 
+    // The same as a length or a place.
     pub fn size(&self, place: usize) -> usize
         ensures { result ≡ get_or self.now.patterns.now place 0 }
     {
         self.field(place) as usize
     }
 
-    // The number without all but its last eight bits.
+    // The number's last eight bits.
     pub fn byte(&self, place: usize) -> u8
         ensures { result ≡ get_or self.now.patterns.now place 0 % 256 }
     {
-        low_byte(self.field(place))
+        (self.field(place) % 256) as u8
     }
 
     // The float whose pattern stands at a place.
@@ -76,7 +76,9 @@ impl Call<'_> {
 
     // Fills a list with the floats from a place on, over and over.
     pub fn fill(&self, place: usize, list: &mut [f32]) {
-        fill_floats(list, self.after(place));
+        fill_with(list, self.after(place), |pattern| {
+            f32_from_bits_with_nan(pattern)
+        });
     }
 
     // Fills the codes and the numbers of a path. At the place stands how many codes are given, and the numbers follow them.
@@ -84,27 +86,18 @@ impl Call<'_> {
         let given = self.after(place);
         if let Some((count, rest)) = given.split_first() {
             let (code_patterns, floats) = rest.split_at(rest.len().min(*count as usize));
-            fill_codes(codes, code_patterns);
-            fill_floats(numbers, floats);
+            fill_with(codes, code_patterns, |pattern| (pattern % 256) as u8);
+            fill_with(numbers, floats, |pattern| f32_from_bits_with_nan(pattern));
         }
     }
 }
 
-fn low_byte(pattern: u32) -> u8
-    ensures { result ≡ pattern % 256 }
+// Fills a list with what patterns stand for, over and over.
+fn fill_with<T: Copy, F: Fn(u32) -> T>(list: &mut [T], patterns: &[u32], value: F)
+    requires { F.IsAlwaysCallable value }
 {
-    (pattern % 256) as u8
-}
-
-fn fill_floats(list: &mut [f32], patterns: &[u32]) {
     for (x, pattern) in list.iter_mut().zip(patterns.iter().cycle()) {
-        *x = f32_from_bits_with_nan(*pattern);
-    }
-}
-
-fn fill_codes(codes: &mut [u8], patterns: &[u32]) {
-    for (code, pattern) in codes.iter_mut().zip(patterns.iter().cycle()) {
-        *code = low_byte(*pattern);
+        *x = value(*pattern);
     }
 }
 
@@ -122,16 +115,107 @@ impl fmt::Display for Bits {
     }
 }
 
-// Answers each line of the input.
-pub fn run<I: Read + Drop, W: Write, F: FnMut(&mut W, &str, Call<'_>) -> io::Result<()>>(
-    alloc: Global,
-    input: I,
-    out: &mut W,
+// Floats, with one blank before each.
+#[derive(Clone, Copy)]
+pub struct Floats<'a>(pub &'a [f32]);
+
+impl fmt::Display for Floats<'_> {
+    fn fmt<W: fmt::Write>(&self, f: &mut fmt::Formatter<W>) -> fmt::Result {
+        for x in self.0 {
+            write!(f, " {}", Bits(*x))?;
+        }
+        Ok(())
+    }
+}
+
+// The codes of a buffer, with one blank before each: what is printed of each is another thing than of a float.
+#[derive(Clone, Copy)]
+struct Codes<'a>(&'a [u8]);
+
+impl fmt::Display for Codes<'_> {
+    fn fmt<W: fmt::Write>(&self, f: &mut fmt::Formatter<W>) -> fmt::Result {
+        for code in self.0 {
+            write!(f, " {code:02x}")?;
+        }
+        Ok(())
+    }
+}
+
+// Two counts, with a blank between them.
+#[derive(Clone, Copy)]
+pub struct Pair(pub usize, pub usize);
+
+impl fmt::Display for Pair {
+    fn fmt<W: fmt::Write>(&self, f: &mut fmt::Formatter<W>) -> fmt::Result {
+        write!(f, "{} {}", self.0, self.1)
+    }
+}
+
+// A value after a word that says what it is.
+#[derive(Clone, Copy)]
+pub struct Named<'a, T>(pub &'a str, pub T);
+
+impl<T: fmt::Display> fmt::Display for Named<'_, T> {
+    fn fmt<W: fmt::Write>(&self, f: &mut fmt::Formatter<W>) -> fmt::Result {
+        write!(f, "{} {}", self.0, self.1)
+    }
+}
+
+// What a call answers, or the number of its refusal.
+#[derive(Clone, Copy)]
+pub struct Answer<T>(pub Outcome<T>);
+
+impl<T: fmt::Display> fmt::Display for Answer<T> {
+    fn fmt<W: fmt::Write>(&self, f: &mut fmt::Formatter<W>) -> fmt::Result {
+        match &self.0 {
+            Err(refusal) => write!(f, "refused {}", u32::from(*refusal)),
+            Ok(value) => write!(f, "{value}"),
+        }
+    }
+}
+
+// The answer of a call that fills two buffers, without what they hold.
+fn named_size(word: &str, size: Outcome<Size>) -> Answer<Named<'_, Pair>> {
+    Answer(size.map(|size| Named(word, Pair(size.codes, size.numbers))))
+}
+
+// What a call that fills two buffers needs of them.
+#[derive(Clone, Copy)]
+pub struct Needed(pub Outcome<Size>);
+
+impl fmt::Display for Needed {
+    fn fmt<W: fmt::Write>(&self, f: &mut fmt::Formatter<W>) -> fmt::Result {
+        write!(f, "{}", named_size("needed", self.0))
+    }
+}
+
+// The answer of a call that fills two buffers, and what they hold after it, each on a line.
+#[derive(Clone, Copy)]
+pub struct Drawn<'a> {
+    pub size: Outcome<Size>,
+    pub codes: &'a [u8],
+    pub numbers: &'a [f32],
+}
+
+impl fmt::Display for Drawn<'_> {
+    fn fmt<W: fmt::Write>(&self, f: &mut fmt::Formatter<W>) -> fmt::Result {
+        writeln!(f, "{}", named_size("written", self.size))?;
+        writeln!(f, "codes{}", Codes(self.codes))?;
+        write!(f, "numbers{}", Floats(self.numbers))
+    }
+}
+
+// Prints each line of the input and what parts it from its answer, and lets `answer` print on.
+// Where to print and the call stay two parameters: what reads a call and prints nothing gets the call alone.
+pub fn run<R: Input + Print + AllocGlobal, F: FnMut(&R, Call<'_>) -> io::Result<()>>(
+    rt: &R,
+    between: &str,
     mut answer: F,
 ) -> io::Result<()>
     requires { F.IsAlwaysCallable answer }
 {
-    for line in BufReader::new(alloc, input)?.lines(alloc) {
+    let alloc = rt.alloc();
+    for line in BufReader::new(alloc, rt.reader())?.lines(alloc) {
         let line = line?;
         let mut words = line.split_ascii_whitespace();
         let word = words.next().unwrap_or("");
@@ -139,9 +223,9 @@ pub fn run<I: Read + Drop, W: Write, F: FnMut(&mut W, &str, Call<'_>) -> io::Res
         for digits in words {
             patterns.push(u32::from_str_radix(digits, 16).unwrap_or(0))?;
         }
+        print!(rt; "{line}{between}")?;
         answer(
-            out,
-            line.as_str(),
+            rt,
             Call {
                 word,
                 patterns: &patterns,
@@ -149,46 +233,4 @@ pub fn run<I: Read + Drop, W: Write, F: FnMut(&mut W, &str, Call<'_>) -> io::Res
         )?;
     }
     Ok(())
-}
-
-pub fn print_refusal(out: &mut impl Write, refusal: Refusal) -> io::Result<()> {
-    writeln!(out, "refused {}", u32::from(refusal))
-}
-
-// Writes a word and the patterns of numbers on a line.
-pub fn print_floats(out: &mut impl Write, word: &str, list: &[f32]) -> io::Result<()> {
-    write!(out, "{word}")?;
-    for x in list {
-        write!(out, " {}", Bits(*x))?;
-    }
-    writeln!(out)
-}
-
-// Writes a word and the codes of a buffer on a line.
-fn print_codes(out: &mut impl Write, word: &str, codes: &[u8]) -> io::Result<()> {
-    write!(out, "{word}")?;
-    for code in codes {
-        write!(out, " {code:02x}")?;
-    }
-    writeln!(out)
-}
-
-// Writes how many codes and numbers a call comes to on a line, with a word before them.
-pub fn print_size(out: &mut impl Write, word: &str, size: Outcome<Size>) -> io::Result<()> {
-    match size {
-        Err(refusal) => print_refusal(out, refusal),
-        Ok(size) => writeln!(out, "{word} {} {}", size.codes, size.numbers),
-    }
-}
-
-// Writes the answer of a call that fills two buffers, and what they hold after it.
-pub fn print_drawn(
-    out: &mut impl Write,
-    drawn: Outcome<Size>,
-    codes: &[u8],
-    numbers: &[f32],
-) -> io::Result<()> {
-    print_size(out, "written", drawn)?;
-    print_codes(out, "codes", codes)?;
-    print_floats(out, "numbers", numbers)
 }

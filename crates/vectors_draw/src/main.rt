@@ -6,9 +6,8 @@
 ghost use Rattle.std.specs.Prelude.{◌<◌};
 
 use command::{Outcome, Size};
-use pattern_text::Call;
+use pattern_text::{Call, Drawn, Needed};
 use std::io;
-use std::io::Write;
 
 // A path or an item, by a call's word.
 fn is_item(call: Call<'_>) -> bool {
@@ -35,7 +34,7 @@ fn row_of(call: Call<'_>) -> [u32; 6] {
 }
 
 // Draws with the first places of a list and of two buffers, so many as the line says.
-fn draw<W: Write>(out: &mut W, call: Call<'_>) -> io::Result<()> {
+fn draw(rt: &impl Print, call: Call<'_>) -> io::Result<()> {
     let place = lengths_place(call);
     let mut list = [0.0; 6150];
     let mut codes = [0xee; 1030];
@@ -44,12 +43,19 @@ fn draw<W: Write>(out: &mut W, call: Call<'_>) -> io::Result<()> {
     let list = &list[..call.lent(place, 6150)];
     let codes = &mut codes[..call.lent(place + 1, 1030)];
     let numbers = &mut numbers[..call.lent(place + 2, 6150)];
-    let drawn = if is_item(call) {
+    let size = if is_item(call) {
         draw::draw_item(&row_of(call)[..call.lent(0, 6)], list, codes, numbers)
     } else {
         draw::draw_path(call.field(0), list, call.size(1), codes, numbers)
     };
-    pattern_text::print_drawn(out, drawn, codes, numbers)
+    println!(rt;
+        "{}",
+        Drawn {
+            size,
+            codes,
+            numbers,
+        }
+    )
 }
 
 // The need of a drawing of the first places of a list, so many as the line says.
@@ -65,20 +71,13 @@ fn need_of(call: Call<'_>) -> Outcome<Size> {
     }
 }
 
-fn answer<W: Write>(out: &mut W, line: &str, call: Call<'_>) -> io::Result<()> {
-    writeln!(out, "{line}")?;
-    if call.word.starts_with("need-") {
-        pattern_text::print_size(out, "needed", need_of(call))
-    } else {
-        draw(out, call)
+fn answer(rt: &impl Print, call: Call<'_>) -> io::Result<()> {
+    match call.word {
+        "need-path" | "need-item" => println!(rt; "{}", Needed(need_of(call))),
+        _ => draw(rt, call),
     }
 }
 
 fn main(rt: HostRuntime) -> io::Result<()> {
-    pattern_text::run(
-        rt.alloc(),
-        rt.stdin(),
-        &mut rt.stdout(),
-        |out, line, call| { answer(out, line, call) },
-    )
+    pattern_text::run(&rt, "\n", answer)
 }

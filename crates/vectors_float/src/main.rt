@@ -4,7 +4,6 @@
 
 use pattern_text::{Bits, Call};
 use std::io;
-use std::io::Write;
 
 // The result of a call. A word that names no operation has a NaN.
 fn result(call: Call<'_>) -> f32 {
@@ -26,15 +25,10 @@ fn result(call: Call<'_>) -> f32 {
     }
 }
 
-fn answer<W: Write>(out: &mut W, line: &str, call: Call<'_>) -> io::Result<()> {
-    writeln!(out, "{line} = {}", Bits(result(call)))
-}
-
 fn main(rt: HostRuntime) -> io::Result<()> {
     pattern_text::run(
-        rt.alloc(),
-        rt.stdin(),
-        &mut rt.stdout(),
-        |out, line, call| { answer(out, line, call) },
+        &rt,
+        " = ",
+        |rt, call| println!(rt; "{}", Bits(result(call))),
     )
 }

@@ -3,42 +3,35 @@
 // tools/length_vectors.py makes the lines and says how they read.
 #![tactic(auto)]
 
-use command::Outcome;
-use pattern_text::{Bits, Call};
+use pattern_text::{Answer, Bits, Call, Floats, Named, Pair};
 use std::io;
-use std::io::Write;
 
-fn print_length<W: Write>(out: &mut W, length: Outcome<f32>) -> io::Result<()> {
-    match length {
-        Err(refusal) => pattern_text::print_refusal(out, refusal),
-        Ok(length) => writeln!(out, "length {}", Bits(length)),
-    }
+fn length_of(codes: &[u8], numbers: &[f32]) -> Answer<Named<'static, Bits>> {
+    let length = length::path_length(codes, numbers);
+    Answer(length.map(|length| Named("length", Bits(length))))
 }
 
-fn print_reached<W: Write>(out: &mut W, reached: Outcome<(bool, usize)>) -> io::Result<()> {
-    match reached {
-        Err(refusal) => pattern_text::print_refusal(out, refusal),
-        Ok((true, read)) => writeln!(out, "yes {read}"),
-        Ok((false, read)) => writeln!(out, "no {read}"),
-    }
+fn reached_of(codes: &[u8], numbers: &[f32], least: f32) -> Answer<Named<'static, usize>> {
+    let reached = reach::length_reaches(codes, numbers, least);
+    Answer(reached.map(|(yes, read)| Named(if yes { "yes" } else { "no" }, read)))
 }
 
-// Writes where a command's numbers stand, and below it the number that is handed back beside the part, how many numbers
-// the part has, and the part.
-fn print_command<W: Write>(out: &mut W, codes: &[u8], numbers: &[f32], k: usize) -> io::Result<()> {
-    match judge::find_command(codes, numbers, k) {
-        Err(refusal) => pattern_text::print_refusal(out, refusal)?,
-        Ok((start, count)) => writeln!(out, "numbers {start} {count}")?,
-    }
+fn place_of(codes: &[u8], numbers: &[f32], k: usize) -> Answer<Named<'static, Pair>> {
+    let found = judge::find_command(codes, numbers, k);
+    Answer(found.map(|(start, count)| Named("numbers", Pair(start, count))))
+}
+
+// Answers with where a command's numbers stand, and below it the number that is handed back beside the part, how many
+// numbers the part has, and the part.
+fn answer_command(rt: &impl Print, codes: &[u8], numbers: &[f32], k: usize) -> io::Result<()> {
+    println!(rt; "{}", place_of(codes, numbers, k))?;
     let fault = judge::command_fault(codes, numbers, k);
     let part = judge::command_part(codes, numbers, k);
-    write!(out, "fault {fault} part {}", part.len())?;
-    pattern_text::print_floats(out, "", part)
+    println!(rt; "fault {fault} part {}{}", part.len(), Floats(part))
 }
 
 // Calls with the first places of two lists, so many as the line says. A measure's line has no number before these.
-fn answer<W: Write>(out: &mut W, line: &str, call: Call<'_>) -> io::Result<()> {
-    writeln!(out, "{line}")?;
+fn answer(rt: &impl Print, call: Call<'_>) -> io::Result<()> {
     let place = if call.word == "measure" { 0 } else { 1 };
     let mut codes = [0; 262150];
     let mut numbers = [0.0; 6150];
@@ -46,17 +39,12 @@ fn answer<W: Write>(out: &mut W, line: &str, call: Call<'_>) -> io::Result<()> {
     let numbers = &mut numbers[..call.lent(place + 1, 6150)];
     call.fill_path(place + 2, codes, numbers);
     match call.word {
-        "command" => print_command(out, codes, numbers, call.size(0)),
-        "reach" => print_reached(out, reach::length_reaches(codes, numbers, call.float(0))),
-        _ => print_length(out, length::path_length(codes, numbers)),
+        "command" => answer_command(rt, codes, numbers, call.size(0)),
+        "reach" => println!(rt; "{}", reached_of(codes, numbers, call.float(0))),
+        _ => println!(rt; "{}", length_of(codes, numbers)),
     }
 }
 
 fn main(rt: HostRuntime) -> io::Result<()> {
-    pattern_text::run(
-        rt.alloc(),
-        rt.stdin(),
-        &mut rt.stdout(),
-        |out, line, call| { answer(out, line, call) },
-    )
+    pattern_text::run(&rt, "\n", answer)
 }

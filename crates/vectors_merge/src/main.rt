@@ -6,9 +6,8 @@
 ghost use Rattle.std.specs.Prelude.{◌<◌};
 
 use command::{Outcome, Size};
-use pattern_text::Call;
+use pattern_text::{Call, Drawn, Needed};
 use std::io;
-use std::io::Write;
 
 // The entries of a row, which is written as one number.
 fn entries(row: u32) -> [u32; 6] {
@@ -41,7 +40,7 @@ fn fill_rows(call: Call<'_>, rows: &mut [u32]) {
 }
 
 // Merges the first places of two lists into those of two buffers, so many as the line says.
-fn merge<W: Write>(out: &mut W, call: Call<'_>) -> io::Result<()> {
+fn merge(rt: &impl Print, call: Call<'_>) -> io::Result<()> {
     let place = given(call) + 5;
     let mut rows = [0; 1548];
     let mut list = [0.0; 6150];
@@ -53,8 +52,13 @@ fn merge<W: Write>(out: &mut W, call: Call<'_>) -> io::Result<()> {
     let list = &list[..call.lent(place, 6150)];
     let codes = &mut codes[..call.lent(place + 1, 1030)];
     let numbers = &mut numbers[..call.lent(place + 2, 6150)];
-    let drawn = join::draw_merge(rows, call.size(0), list, codes, numbers);
-    pattern_text::print_drawn(out, drawn, codes, numbers)
+    let size = join::draw_merge(rows, call.size(0), list, codes, numbers);
+    let drawn = Drawn {
+        size,
+        codes,
+        numbers,
+    };
+    println!(rt; "{drawn}")
 }
 
 // The need of a merge of the first places of two lists, so many as the line says.
@@ -71,20 +75,13 @@ fn need_of(call: Call<'_>) -> Outcome<Size> {
     )
 }
 
-fn answer<W: Write>(out: &mut W, line: &str, call: Call<'_>) -> io::Result<()> {
-    writeln!(out, "{line}")?;
-    if call.word.starts_with("need-") {
-        pattern_text::print_size(out, "needed", need_of(call))
-    } else {
-        merge(out, call)
+fn answer(rt: &impl Print, call: Call<'_>) -> io::Result<()> {
+    match call.word {
+        "need-merge" => println!(rt; "{}", Needed(need_of(call))),
+        _ => merge(rt, call),
     }
 }
 
 fn main(rt: HostRuntime) -> io::Result<()> {
-    pattern_text::run(
-        rt.alloc(),
-        rt.stdin(),
-        &mut rt.stdout(),
-        |out, line, call| { answer(out, line, call) },
-    )
+    pattern_text::run(&rt, "\n", answer)
 }

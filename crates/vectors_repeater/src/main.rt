@@ -2,11 +2,9 @@
 // tools/repeater_vectors.py makes the lines and says how they read.
 #![tactic(auto)]
 
-use command::Outcome;
-use pattern_text::{Bits, Call};
+use pattern_text::{Answer, Call, Floats, Named};
 use repeater::RepeaterStyle;
 use std::io;
-use std::io::Write;
 use std::num::f32_from_bits_with_nan;
 
 // The repeater of a line's mode and of its eleven numbers from a place on.
@@ -16,34 +14,26 @@ fn repeater_at(call: Call<'_>, first: usize) -> RepeaterStyle {
     copies::repeater_of(&numbers, call.byte(0))
 }
 
-fn print_written<W: Write>(out: &mut W, written: Outcome<usize>) -> io::Result<()> {
-    match written {
-        Err(refusal) => pattern_text::print_refusal(out, refusal),
-        Ok(n) => writeln!(out, "written {n}"),
-    }
-}
-
 // Answers with an order in the first places of a list, so many as the line says, and writes what they then hold.
-fn answer_order<W: Write>(out: &mut W, call: Call<'_>) -> io::Result<()> {
+fn answer_order(rt: &impl Print, call: Call<'_>) -> io::Result<()> {
     let mut order = [0xeeee_eeee; 4100];
     let order = &mut order[..call.lent(1, 4100)];
-    print_written(out, copies::copy_order(repeater_at(call, 2), order))?;
-    write!(out, "places")?;
+    let written = copies::copy_order(repeater_at(call, 2), order);
+    println!(rt; "{}", Answer(written.map(|n| Named("written", n))))?;
+    print!(rt; "places")?;
     for copy in order {
-        write!(out, " {copy:08x}")?;
+        print!(rt; " {copy:08x}")?;
     }
-    writeln!(out)
+    println!(rt)
 }
 
 // The same with a copy's numbers.
-fn answer_copy<W: Write>(out: &mut W, call: Call<'_>) -> io::Result<()> {
+fn answer_copy(rt: &impl Print, call: Call<'_>) -> io::Result<()> {
     let mut numbers = [-77.25; 16];
     let numbers = &mut numbers[..call.lent(2, 16)];
-    print_written(
-        out,
-        copies::copy_transform(repeater_at(call, 3), call.size(1), numbers),
-    )?;
-    pattern_text::print_floats(out, "places", numbers)
+    let written = copies::copy_transform(repeater_at(call, 3), call.size(1), numbers);
+    println!(rt; "{}", Answer(written.map(|n| Named("written", n))))?;
+    println!(rt; "places{}", Floats(numbers))
 }
 
 // A repeater of two copies that turns and does nothing else.
@@ -56,33 +46,25 @@ fn turning(rotation: f32) -> RepeaterStyle {
 
 // Answers with the numbers a, b, c and d of copy 1 for each rotation of a line, or what their places hold where it is
 // refused.
-fn answer_turns<W: Write>(out: &mut W, call: Call<'_>) -> io::Result<()> {
-    write!(out, "places")?;
+fn answer_turns(rt: &impl Print, call: Call<'_>) -> io::Result<()> {
+    print!(rt; "places")?;
     for pattern in call.patterns {
         let rotation = f32_from_bits_with_nan(*pattern);
         let mut numbers = [-77.25; 7];
         let _written = copies::copy_transform(turning(rotation), 1, &mut numbers);
-        for x in &numbers[..4] {
-            write!(out, " {}", Bits(*x))?;
-        }
+        print!(rt; "{}", Floats(&numbers[..4]))?;
     }
-    writeln!(out)
+    println!(rt)
 }
 
-fn answer<W: Write>(out: &mut W, line: &str, call: Call<'_>) -> io::Result<()> {
-    writeln!(out, "{line}")?;
+fn answer(rt: &impl Print, call: Call<'_>) -> io::Result<()> {
     match call.word {
-        "order" => answer_order(out, call),
-        "turn" => answer_turns(out, call),
-        _ => answer_copy(out, call),
+        "order" => answer_order(rt, call),
+        "turn" => answer_turns(rt, call),
+        _ => answer_copy(rt, call),
     }
 }
 
 fn main(rt: HostRuntime) -> io::Result<()> {
-    pattern_text::run(
-        rt.alloc(),
-        rt.stdin(),
-        &mut rt.stdout(),
-        |out, line, call| { answer(out, line, call) },
-    )
+    pattern_text::run(&rt, "\n", answer)
 }

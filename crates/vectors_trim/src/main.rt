@@ -2,9 +2,8 @@
 // tools/trim_vectors.py makes the lines and says how they read.
 #![tactic(auto)]
 
-use pattern_text::{Bits, Call};
-use std::io;
-use std::io::Write;
+use pattern_text::{Answer, Bits, Call, Floats};
+use std::{fmt, io};
 use trim::{Ranges, TrimStyle};
 
 fn trim_of(call: Call<'_>) -> TrimStyle {
@@ -16,65 +15,87 @@ fn trim_of(call: Call<'_>) -> TrimStyle {
     }
 }
 
-// Writes what is told of the ranges, and what the buffer holds.
-fn print_ranges<W: Write>(out: &mut W, ranges: Ranges, buffer: &[f32]) -> io::Result<()> {
-    let case = match ranges {
-        Ranges::Nothing => "nothing",
-        Ranges::One(_, _) => "one",
-        Ranges::Two(_, _) => "two",
-    };
-    write!(
-        out,
-        "{case} {} mark {} ",
-        ranges.count(),
-        u32::from(ranges.is_full())
-    )?;
-    pattern_text::print_floats(out, "numbers", buffer)
+// What is told of ranges, and what a buffer holds that they were put in.
+#[derive(Clone, Copy)]
+struct Shown {
+    ranges: Ranges,
+    buffer: [f32; 8],
 }
 
-fn answer_ranges<W: Write>(out: &mut W, call: Call<'_>) -> io::Result<()> {
-    match cut::trim_ranges(trim_of(call)) {
-        Err(refusal) => pattern_text::print_refusal(out, refusal),
-        Ok(ranges) => {
-            let mut buffer = [-77.25; 8];
-            cut::put_ranges(ranges, &mut buffer);
-            print_ranges(out, ranges, &buffer)
+impl Shown {
+    fn case(self) -> &'static str {
+        match self.ranges {
+            Ranges::Nothing => "nothing",
+            Ranges::One(_, _) => "one",
+            Ranges::Two(_, _) => "two",
         }
     }
 }
 
+impl fmt::Display for Shown {
+    fn fmt<W: fmt::Write>(&self, f: &mut fmt::Formatter<W>) -> fmt::Result {
+        let case = self.case();
+        let count = self.ranges.count();
+        let mark = u32::from(self.ranges.is_full());
+        write!(
+            f,
+            "{case} {count} mark {mark} numbers{}",
+            Floats(&self.buffer)
+        )
+    }
+}
+
+fn shown_ranges(ranges: Ranges) -> Shown {
+    let mut buffer = [-77.25; 8];
+    cut::put_ranges(ranges, &mut buffer);
+    Shown { ranges, buffer }
+}
+
+// The lengths at which ranges cut a path, and before them the path's length.
+#[derive(Clone, Copy)]
+struct ShownCuts {
+    total: f32,
+    cuts: Shown,
+}
+
+impl fmt::Display for ShownCuts {
+    fn fmt<W: fmt::Write>(&self, f: &mut fmt::Formatter<W>) -> fmt::Result {
+        write!(f, "length {} {}", Bits(self.total), self.cuts)
+    }
+}
+
+fn shown_cuts(total: f32, ranges: Ranges) -> ShownCuts {
+    let mut buffer = [-77.25; 8];
+    cut::put_cuts(total, ranges, &mut buffer);
+    ShownCuts {
+        total,
+        cuts: Shown { ranges, buffer },
+    }
+}
+
+fn ranges_of(call: Call<'_>) -> Answer<Shown> {
+    Answer(cut::trim_ranges(trim_of(call)).map(|ranges| shown_ranges(ranges)))
+}
+
 // Cuts the path of the first places of two lists, so many as the line says.
-fn answer_lengths<W: Write>(out: &mut W, call: Call<'_>) -> io::Result<()> {
+fn cuts_of(call: Call<'_>) -> Answer<ShownCuts> {
     let mut codes = [0; 262150];
     let mut numbers = [0.0; 6150];
     let codes = &mut codes[..call.lent(4, 262150)];
     let numbers = &mut numbers[..call.lent(5, 6150)];
     call.fill_path(6, codes, numbers);
-    match cut::trim_lengths(trim_of(call), codes, numbers) {
-        Err(refusal) => pattern_text::print_refusal(out, refusal),
-        Ok((total, ranges)) => {
-            let mut buffer = [-77.25; 8];
-            cut::put_cuts(total, ranges, &mut buffer);
-            write!(out, "length {} ", Bits(total))?;
-            print_ranges(out, ranges, &buffer)
-        }
-    }
+    let cut = cut::trim_lengths(trim_of(call), codes, numbers);
+    Answer(cut.map(|(total, ranges)| shown_cuts(total, ranges)))
 }
 
-fn answer<W: Write>(out: &mut W, line: &str, call: Call<'_>) -> io::Result<()> {
-    writeln!(out, "{line}")?;
+fn answer(rt: &impl Print, call: Call<'_>) -> io::Result<()> {
     if call.word == "ranges" {
-        answer_ranges(out, call)
+        println!(rt; "{}", ranges_of(call))
     } else {
-        answer_lengths(out, call)
+        println!(rt; "{}", cuts_of(call))
     }
 }
 
 fn main(rt: HostRuntime) -> io::Result<()> {
-    pattern_text::run(
-        rt.alloc(),
-        rt.stdin(),
-        &mut rt.stdout(),
-        |out, line, call| { answer(out, line, call) },
-    )
+    pattern_text::run(&rt, "\n", answer)
 }
