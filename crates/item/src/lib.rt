@@ -89,7 +89,7 @@ impl Kind {
         )
     }
 
-    // Whether it may bear a mark.
+    // Whether it may bear a mark, which is a number as in the row.
     #[tactic(auto, unfolding(crate::specs::Rows::is_mark))]
     fn may_bear(self, mark: u32) -> bool
         ensures { result ≡ is_mark self mark }

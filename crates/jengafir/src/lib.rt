@@ -1,4 +1,6 @@
 // The functions that C calls: include/jengafir.h declares them. Each hands its numbers on.
+// The parameters are C's: a flag or a mode is a number, since any may come, and a list has a count beside it where the two
+// may disagree. Two bodies of one shape, as those of `jengafir_draw_path` and `jengafir_merge`, have two of C's names.
 #![tactic(auto)]
 
 ghost use Rattle.std.specs.Prelude.{◌≡◌, length};

@@ -20,6 +20,7 @@ fn is_there(least: Option<f32>, pen: Pen) -> bool
     }
 }
 
+// Codes and numbers are two parameters here for the reason at `judge::judge`.
 // Reads a list from its start: each command is judged, then drawn by the pen. What lies past the first command by which the
 // list is so long is not read. Tells whether there is one, how many commands were read, and how long they are.
 #[tactic(auto, using(crate::proofs::Ways::walking))]

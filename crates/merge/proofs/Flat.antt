@@ -8,7 +8,7 @@ use Rattle.std.specs.Prelude.{Option, None, Some, Ok, Err}
 use mathlib.Core.Path.{◌≡◌, refl, sym, ap, ap₂, ◌∙◌}
 use mathlib.Core.Bool.{Bool, true, false, cond, not, ◌&&◌, ◌||◌, true≢false, and-true, and-false, and-eq-true_iff}
 use mathlib.Core.List.{List, [], ◌∷◌}
-use Prim.Native.Nat.{ℕ, zero, suc, ◌+◌, ◌-◌, ◌<◌, ◌≤◌}
+use Prim.Native.Nat.{ℕ, zero, suc, ◌+◌, ◌<◌, ◌≤◌}
 use native.Mathlib.Omega.{arith}
 use lib.Dec.{leb, eqb}
 use lib.ListN.{length, take, drop}
@@ -303,20 +303,10 @@ ruling_flat rows n = ap entry_ruling (entries_are (rows_from rows 0 n) 0) ∙ en
 
 -- ---- rows of a list
 
-rows_move : (rows : List ℕ) (a b c d : ℕ) → a ≡ c → b ≡ d → rows_from rows a b ≡ rows_from rows c d
-rows_move rows a b c d p q = ap₂ (rows_from rows) p q
-
 pub length_rows : (rows : List ℕ) (i left : ℕ) → length (rows_from rows i left) ≡ left
 unfolding rows_from
 length_rows rows i zero = refl
 length_rows rows i (suc left) = ap suc (length_rows rows (i + 1) left)
-
-pub drop_rows : (rows : List ℕ) (j i left : ℕ) → drop j (rows_from rows i left) ≡ rows_from rows (i + j) (left - j)
-unfolding rows_from
-drop_rows rows zero i left = rows_move rows i left (i + 0) (left - 0) (omega arith) (omega arith)
-drop_rows rows (suc j) i zero = let e : 0 - suc j ≡ 0 = omega arith in rw e
-drop_rows rows (suc j) i (suc left) =
-    drop_rows rows j (i + 1) left ∙ rows_move rows (i + 1 + j) (left - j) (i + suc j) (suc left - suc j) (omega arith) (omega arith)
 
 pub take_rows : (rows : List ℕ) (j i left : ℕ) → j ≤ left → take j (rows_from rows i left) ≡ rows_from rows i j
 unfolding rows_from

@@ -116,6 +116,7 @@ fn rule(rows: &[[u32; 6]]) -> Outcome<&[[u32; 6]]>
 }
 
 // What a merge of the first n rows comes to on the rows alone: a refusal, or the rows before the merge row, the sources among which are joined.
+// The list and n stay apart, as C lends them, until `first_rows` has found that they agree.
 #[tactic(auto, unfolding(crate::specs::Decision::said, crate::specs::Decision::decision))]
 pub fn decide(rows: &[u32], n: usize) -> Outcome<&[[u32; 6]]>
     ensures sources { said (mapped (λ before. map row_of before.now) result) ≡ decision rows.now n }

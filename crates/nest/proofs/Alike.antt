@@ -20,10 +20,6 @@ pub data Alike : List ItemRow → List ItemRow → Type 0 where
   ends : Alike [] []
   goes : {r q : ItemRow} {rs qs : List ItemRow} → Same r q → Alike rs qs → Alike (r ∷ rs) (q ∷ qs)
 
-pub alike_refl : (rs : List ItemRow) → Alike rs rs
-alike_refl [] = ends
-alike_refl (r ∷ rs) = goes (record { kind = refl; hidden = refl; depth = refl; mark = λ e. refl }) (alike_refl rs)
-
 pub children_alike : {rs qs : List ItemRow} (g : ℕ) → Alike rs qs → children_empty g rs ≡ children_empty g qs
 unfolding children_empty
 children_alike g ends = refl

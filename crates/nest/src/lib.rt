@@ -9,7 +9,7 @@ ghost use Rattle.nest.specs.Flat.{is_plain_child, children_empty, group_empty};
 
 use item::{ItemRow, Kind};
 
-// The first n rows of a list of numbers, which has six for each, if there are so many.
+// The first n rows of a list of numbers, which has six for each, if there are so many. C lends the list and n apart: they may disagree.
 pub fn first_rows(entries: &[u32], n: usize) -> Option<&[[u32; 6]]>
     ensures none { IsNone result ↔ (length entries.now < 6 * n) }
     ensures some { IfSome result (λ rows. map row_of rows.now ≡ rows_from entries.now 0 n) }
@@ -83,6 +83,7 @@ pub fn group_empty(row: ItemRow, after: &[[u32; 6]]) -> bool
 }
 
 // Whether each child of a group at this depth is hidden, a tr or an empty group. The group's rows come first.
+// No `for` over the rows, since whether a child is an empty group hangs on all the rows after it as well.
 #[cycle(children_empty_group_empty)]
 #[tactic(auto, using(crate::proofs::Children::child_steps), unfolding(crate::specs::Flat::children_empty))]
 fn children_empty(rows: &[[u32; 6]], group: u32) -> bool

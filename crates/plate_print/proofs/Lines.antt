@@ -76,9 +76,3 @@ numbers_there (c ∷ cs) =
     ap (λ (n : ℕ). n + place_of (length (codes_of cs)) (codes_of cs)) (size_of c)
     ∙ ap (λ (n : ℕ). length (coordinates_of c) + n) (numbers_there cs)
     ∙ sym (length-append (coordinates_of c) (numbers_of cs))
-
-pub list_text_length : (codes : List ℕ) (v : List Float) (total : Float) → length (list_text codes v total) ≡ length (list_lines codes v) + 14
-unfolding list_text
-list_text_length codes v total =
-    length-append (list_lines codes v) (numbers_line 9 (total ∷ []))
-    ∙ ap (λ (k : ℕ). length (list_lines codes v) + k) (numbers_line_length 9 (total ∷ []))

@@ -1,4 +1,6 @@
 // The answer of the program `plate` as text: commands, the length and refusals, printed to a buffer of bytes.
+// Each byte is put down by hand: std's `write!` says what it writes where it gives Ok, but not when it does, and these
+// contracts name every byte for every input.
 #![tactic(auto)]
 
 ghost use Rattle.std.specs.Prelude.{◌≡◌, [], ◌∷◌, map, ◌+◌, ◌*◌, ◌≤◌, ◌<◌, length};
@@ -31,6 +33,7 @@ fn leading_digit(n: u32) -> u8
 
 // A number in the columns before the last one, from the right.
 // By index, since of a slice that is written through `iter_mut().rev()` a proof knows only the length.
+#[tactic(auto, using(crate::proofs::Ways::leads))]
 fn put_leading(out: &mut [u8], at: usize, width: usize, value: u32)
     requires { at + width ≤ length out.old }
     ensures { out.new ≡ sets out.old at (leading width value) }
@@ -51,6 +54,7 @@ struct Text<'a> {
 
 impl Text<'_> {
     // A number in columns.
+    #[tactic(auto, using(crate::proofs::Ways::writing))]
     fn put_column(&mut self, width: usize, value: u32)
         requires { (0 < width) × HasRoom self.old width }
         ensures { Appended self.old self.new (column width value) }
@@ -64,6 +68,7 @@ impl Text<'_> {
     }
 
     // The bits of numbers in 11 columns each.
+    #[tactic(auto, using(crate::proofs::Ways::columning), unfolding(crate::specs::Lines::columns))]
     fn put_columns(&mut self, numbers: &[f32])
         requires { HasRoom self.old (11 * length numbers.now) }
         ensures { Appended self.old self.new (columns (map (to_bits binary32) numbers.now)) }
@@ -84,6 +89,7 @@ impl Text<'_> {
     }
 
     // A line of a code and the bits of numbers.
+    #[tactic(auto, using(crate::proofs::Ways::writing), unfolding(crate::specs::Lines::numbers_line, crate::specs::Lines::line))]
     fn put_numbers_line(&mut self, code: u8, numbers: &[f32])
         requires { HasRoom self.old (3 + 11 * length numbers.now) }
         ensures { Appended self.old self.new (numbers_line code numbers.now) }
@@ -94,6 +100,7 @@ impl Text<'_> {
     }
 
     // A line of a code and one number, which is no float: a function of three lines, and no plainer with a closure for the bits.
+    #[tactic(auto, using(crate::proofs::Ways::writing), unfolding(crate::specs::Lines::line, crate::specs::Lines::columns))]
     fn put_line(&mut self, code: u32, value: u32)
         requires { HasRoom self.old 14 }
         ensures { Appended self.old self.new (line code (value ∷ [])) }
@@ -104,6 +111,7 @@ impl Text<'_> {
     }
 
     // A line for each command.
+    #[tactic(auto, using(crate::proofs::Ways::commanding), unfolding(crate::specs::Lines::list_lines, judge::specs::Lists::place_of))]
     fn put_commands(&mut self, codes: &[u8], numbers: &[f32])
         requires codes_in_bounds { place_of (length codes.now) codes.now ≤ length numbers.now }
         requires room { HasRoom self.old (69 * length codes.now) }
@@ -119,6 +127,7 @@ impl Text<'_> {
 }
 
 // Prints a refusal from the start of a buffer, and gives the text's length.
+#[tactic(auto, using(crate::proofs::Ways::writing), unfolding(crate::specs::Lines::refusal_text))]
 pub fn print_refusal(refusal: Refusal, out: &mut [u8]) -> usize
     requires { 14 ≤ length out.old }
     ensures value { result ≡ length (refusal_text refusal) }
@@ -130,6 +139,7 @@ pub fn print_refusal(refusal: Refusal, out: &mut [u8]) -> usize
 }
 
 // Prints commands and the path's length from the start of a buffer, and gives the text's length. A line has at most 69 bytes, the last one 14.
+#[tactic(auto, using(crate::proofs::Ways::writing), unfolding(crate::specs::Lines::list_text, crate::specs::Lines::numbers_line))]
 pub fn print_answer(codes: &[u8], numbers: &[f32], total: f32, out: &mut [u8]) -> usize
     requires codes_in_bounds { place_of (length codes.now) codes.now ≤ length numbers.now }
     requires codes_in_bounds_2 { 69 * length codes.now + 14 ≤ length out.old }

@@ -1,4 +1,4 @@
--- What each way out of the functions on a field owes, as the code meets it: a premise for each test and for each call's result.
+-- Laws of a field: its blanks, its digits and its value.
 -- Assumes nothing.
 use mathlib.Core.Path.{◌≡◌, refl, sym, ap, ◌∙◌}
 use mathlib.Core.Bool.{Bool, true, false, not, cond, ◌&&◌, and-eq-true_iff}
@@ -123,56 +123,32 @@ pattern_end : (v : ℕ) → v ≤ largest_pattern → pattern_after v [] ≡ Som
 unfolding pattern_after all_digits value_after
 pattern_end v h = rw (le-leb v largest_pattern h)
 
--- the digits from place i on, after those before it, settle the answer
-module _ (digits : List ℕ) where
-  pub digits_start : pattern_after 0 (drop 0 digits) ≡ pattern_after 0 digits
-  digits_start = refl
+-- one digit more, a byte that is none, and the end
+module _ (digits : List ℕ) (i value : ℕ) where
+  pub digits_all : value < 4294967296 → length digits ≤ i → pattern_after value (drop i digits) ≡ Some value
+  digits_all small h = ap (pattern_after value) (drop_of_length-le digits {i = i} h) ∙ pattern_end value (omega arith)
 
-  module _ (i value : ℕ) (left : pattern_after value (drop i digits) ≡ pattern_after 0 digits) where
-    pub digits_all : value < 4294967296 → length digits ≤ i → Some value ≡ pattern_after 0 digits
-    digits_all small h =
-        let e : drop i digits ≡ [] = drop_of_length-le digits {i = i} h in
-        sym (pattern_end value (omega arith)) ∙ ap (pattern_after value) (sym e) ∙ left
+  module _ (h : i < length digits) where
+    first : pattern_after value (drop i digits) ≡ pattern_after value (get_or digits i 0 ∷ drop (suc i) digits)
+    first = ap (pattern_after value) (drop-cons digits i 0 h)
 
-    module _ (h : i < length digits) (t : Bool) (t_is : t ≡ is_ascii_digit (get_or digits i 0)) where
-      abbrev b : ℕ
-      b = get_or digits i 0
+    pub digits_other : is_ascii_digit (get_or digits i 0) ≡ false → pattern_after value (drop i digits) ≡ None
+    digits_other e = first ∙ pattern_other value (get_or digits i 0) (drop (suc i) digits) (sym (digit_same (get_or digits i 0)) ∙ e)
 
-      first : pattern_after value (b ∷ drop (suc i) digits) ≡ pattern_after 0 digits
-      first = ap (pattern_after value) (sym (drop-cons digits i 0 h)) ∙ left
+    module _ (e : is_ascii_digit (get_or digits i 0) ≡ true) where
+      more : pattern_after value (drop i digits) ≡ pattern_after (value * 10 + (get_or digits i 0 - 48)) (drop (suc i) digits)
+      more = first ∙ pattern_digit value (get_or digits i 0) (drop (suc i) digits) (sym (digit_same (get_or digits i 0)) ∙ e)
 
-      same : t ≡ is_digit b
-      same = t_is ∙ digit_same b
+      pub digits_next : (value' : ℕ) → value' ≡ value * 10 + (get_or digits i 0 - 48) → pattern_after value (drop i digits) ≡ pattern_after value' (drop (i + 1) digits)
+      digits_next value' value_is = rw (value_is, add-one) more
 
-      pub digits_other : t ≡ false → None ≡ pattern_after 0 digits
-      digits_other e = sym (pattern_other value b (drop (suc i) digits) (sym same ∙ e)) ∙ first
+      pub digits_large : largest_pattern < value * 10 + (get_or digits i 0 - 48) → pattern_after value (drop i digits) ≡ None
+      digits_large l = more ∙ pattern_large (value * 10 + (get_or digits i 0 - 48)) (drop (suc i) digits) l
 
-      module _ (e : t ≡ true) where
-        between : (48 ≤ b) × (b ≤ 57)
-        between = digit_between b (sym same ∙ e)
+pub digit_starts : (b : ℕ) → is_ascii_digit b ≡ true → (48 ≤ b) × (b ≤ 57)
+digit_starts b e = digit_between b (sym (digit_same b) ∙ e)
 
-        pub digit_starts : 48 ≤ b
-        digit_starts = between.0
-
-        more : pattern_after (value * 10 + (b - 48)) (drop (suc i) digits) ≡ pattern_after 0 digits
-        more = sym (pattern_digit value b (drop (suc i) digits) (sym same ∙ e)) ∙ first
-
-        large : largest_pattern < value * 10 + (b - 48) → None ≡ pattern_after 0 digits
-        large l = sym (pattern_large (value * 10 + (b - 48)) (drop (suc i) digits) l) ∙ more
-
-        pub digits_tens : (value * 10 < 4294967296 → ⊥) → None ≡ pattern_after 0 digits
-        digits_tens n = let l : 4294967296 ≤ value * 10 = omega arith in large (omega arith)
-
-        module _ (tens : ℕ) (tens_is : tens ≡ value * 10) where
-          pub digits_large : (tens + (b - 48) < 4294967296 → ⊥) → None ≡ pattern_after 0 digits
-          digits_large n = let l : 4294967296 ≤ tens + (b - 48) = omega arith in large (omega arith)
-
-          pub digits_next : (value' : ℕ) → value' ≡ tens + (b - 48) → pattern_after value' (drop (i + 1) digits) ≡ pattern_after 0 digits
-          digits_next value' value_is =
-              let v : value' ≡ value * 10 + (b - 48) = omega arith in
-              rw (v, add-one) more
-
-pub ruleset values = (digits_start, digits_all, digits_other, digit_starts, digits_tens, digits_large, digits_next)
+pub ruleset values = (digits_all, digits_other, digit_starts, digits_large, digits_next)
 
 -- ---- field_value
 numeral_digits : (u : List ℕ) → 0 < length u → is_numeral u ≡ all_digits u
@@ -209,24 +185,3 @@ module _ (field : List ℕ) (e : is_field field ≡ true) where
       leb-true (field_value field) largest_pattern
       ((and-eq-true_iff (is_numeral (unblanked field)) (leb (field_value field) largest_pattern)).0
       ((and-eq-true_iff (eqb (length field) 11) (is_numeral (unblanked field) && leb (field_value field) largest_pattern)).0 e).1).1
-
-  pub field_pattern_lem : field_pattern field ≡ Some (field_value field)
-  unfolding field_pattern
-  field_pattern_lem = rw e
-
--- a field that gives a value is one, and one that gives none is none
-pub field_good : (field : List ℕ) (v : ℕ) → Some v ≡ field_pattern field → (is_field field ≡ true) × (v ≡ field_value field)
-unfolding field_pattern
-field_good field v h = go (is_field field) h
-  where
-    go : (a : Bool) → Some v ≡ cond a (Some (field_value field)) None → (a ≡ true) × (v ≡ field_value field)
-    go true h = (refl, cc)
-    go false h = cc
-
-pub field_bad : (field : List ℕ) → None ≡ field_pattern field → is_field field ≡ false
-unfolding field_pattern
-field_bad field h = go (is_field field) h
-  where
-    go : (a : Bool) → None ≡ cond a (Some (field_value field)) None → a ≡ false
-    go true h = cc
-    go false h = refl

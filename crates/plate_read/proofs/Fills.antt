@@ -1,8 +1,8 @@
--- What each way out of `read_lines` and `read` owes, as the code meets it. Assumes nothing.
+-- The lines read so far and the numbers written for them, and the text after its first line. Assumes nothing.
 use mathlib.Core.Path.{◌≡◌, refl, sym, ap, ◌∙◌}
 use mathlib.Core.Bool.{true, cond}
 use mathlib.Core.List.{List, [], ◌++◌, map, map-append, append-nil}
-use Prim.Native.Nat.{ℕ, suc, ◌+◌, ◌-◌, ◌*◌, ◌/◌, ◌≤◌, ◌<◌, min}
+use Prim.Native.Nat.{ℕ, suc, ◌+◌, ◌-◌, ◌*◌, ◌≤◌, ◌<◌, min}
 use native.Mathlib.Nat.{le_refl}
 use native.Mathlib.Omega.{arith}
 use lib.Ieee.{Float, of_bits, binary32}
@@ -18,12 +18,12 @@ use Rattle.std.specs.Fn.{Called}
 use Rattle.std.specs.Prelude.{Some, None, Result, Ok, Err}
 use Rattle.command.specs.declared.Refusal.{Refusal}
 use Rattle.command.specs.declared.Refusal.TheVariants.{TooMany, Unlisted}
-use Rattle.command.specs.Buffers.{onto}
 use Rattle.command.proofs.Buffers.{sets_append, sets_onto}
 use Rattle.plate_read.specs.declared.Reading.{Reading}
-use Rattle.plate_read.specs.Text.{field_value, line_form, line_values, Content, faulty, given, before, read_lines, read_text, reading_of, numbers_given}
+use Rattle.plate_read.specs.Text.{field_value, line_form, line_values, Content, faulty, given, before, read_lines, reading_of}
 use Rattle.plate_read.specs.Fields.{line_patterns}
-use Rattle.plate_read.proofs.Lines.{form_long, values_length, patterns_form, patterns_bad, lines_none, lines_many, lines_broken, lines_next}
+pub use Rattle.plate_read.proofs.Lines.{lines_none}
+use Rattle.plate_read.proofs.Lines.{form_long, values_length, patterns_form, patterns_bad, lines_many, lines_broken, lines_next}
 use Rattle.plate_read.proofs.Texts.{form_prefix, values_prefix}
 
 -- the numbers with these patterns
@@ -93,17 +93,15 @@ module _ (flag : ℕ) (lines : List ℕ) (l₀ : List Float) where
       go (given flag ps) = refl
 
   module _ (text : List ℕ) (l : List Float) (count : ℕ) (w : Filling flag lines text l₀ l count) where
-    pub fill_many : 0 < length text → count ≡ 256 → Err TooMany ≡ reading_of (read_lines flag 256 lines)
-    unfolding before reading_of
-    fill_many h e =
-        let z : 256 - count ≡ 0 = omega arith in
-        ap reading_of (sym (w.left ∙ ap (before w.patterns) (ap (λ (k : ℕ). read_lines flag k text) z ∙ lines_many flag 0 text h)))
+    module _ (chunk : ℕ) (chunk_is : chunk ≡ 67) (h : 0 < length text) (e : count ≡ 256 → ⊥) (line rest : List ℕ) (cut : text ≡ line ++ rest)
+        (long : length line ≡ min chunk (length text)) where
+      size : length line ≡ min 67 (length text)
+      size = rw chunk_is at long
 
-    module _ (line rest : List ℕ) (cut : text ≡ line ++ rest) (size : length line ≡ min 67 (length text)) (h : 0 < length text) (e : count ≡ 256 → ⊥) where
       one : 256 - count ≡ suc (256 - (count + 1))
       one = let b = w.bound in omega arith
 
-      pub fill_place : 6 * count + 6 ≤ 1536
+      fill_place : 6 * count + 6 ≤ 1536
       fill_place = let b = w.bound in omega arith
 
       pub fill_bad : None ≡ line_patterns 6 line → Err Unlisted ≡ reading_of (read_lines flag 256 lines)
@@ -140,79 +138,31 @@ module _ (flag : ℕ) (lines : List ℕ) (l₀ : List Float) where
           }
 
       pub fill_copied : (ps : List ℕ) (k : ℕ) (vs : List Float) → length l₀ ≡ 1536 → Some ps ≡ line_patterns 6 line → vs ≡ floats ps → k ≡ 6 → Filling flag lines rest l₀ (put_mid (6 * count) k l vs) (count + 1)
-      fill_copied ps k vs long p vs_is k_is =
+      fill_copied ps k vs room p vs_is k_is =
           let g = patterns_form 6 text ps (p ∙ piece_patterns text line rest cut size) in
           let s = w.same in
           let place = fill_place in
           let six : length vs ≡ 6 = ap length vs_is ∙ length-map ps (of_bits binary32) ∙ ap length g.1 ∙ values_length 6 text in
           fill_next ps (put_mid (6 * count) k l vs) p (copied_is l vs (6 * count) k (omega arith) (omega arith) ∙ ap (sets l (6 * count)) vs_is)
 
-    module _ (h : length text ≡ 0) where
-      all : read_lines flag 256 lines ≡ given flag w.patterns
-      unfolding before
-      all = w.left ∙ ap (before w.patterns) (lines_none flag (256 - count) text h) ∙ ap (given flag) (append-nil w.patterns)
+-- ---- lines after the last that is read
+module _ (flag n : ℕ) (t : List ℕ) where
+  pub rest_many : n ≡ 0 → 0 < length t → read_lines flag n t ≡ faulty TooMany
+  rest_many e h = ap (λ (k : ℕ). read_lines flag k t) e ∙ lines_many flag 0 t h
 
-      pub fill_end : reading flag count ≡ reading_of (read_lines flag 256 lines)
-      unfolding reading_of
-      fill_end =
-          let s = w.six in
-          let c : count ≡ length w.patterns / 6 = omega arith in
-          ap (λ (k : ℕ). reading flag k) c ∙ ap reading_of (sym all)
-
-      pub fill_written : length l₀ ≡ 1536 → l ≡ onto (numbers_given (read_lines flag 256 lines)) l₀
-      unfolding numbers_given
-      fill_written long =
-          let s = w.six in
-          let b = w.bound in
-          let few : length (floats w.patterns) ≤ length l₀ = rw (length-map w.patterns (of_bits binary32)) (omega arith) in
-          w.written ∙ sets_onto (floats w.patterns) l₀ few ∙ ap (λ (c : Content). onto (numbers_given c) l₀) (sym all)
-
-pub ruleset fills = (fill_start, fill_many, fill_place, fill_bad, fill_end, fill_written)
+pub ruleset fills = (fill_start, lines_none, rest_many, sets_onto, length-map, append-nil)
 
 -- ---- read
+-- the first line's value, and the lines after it
 module _ (text : List ℕ) where
-  pub first_bad : None ≡ line_patterns 1 text → faulty Unlisted ≡ read_text text
-  unfolding read_text
-  first_bad e = rw (patterns_bad 1 text e)
+  pub first_value : get_or (line_values 1 text) 0 0 ≡ field_value (take 11 text)
+  unfolding line_values
+  first_value = refl
 
-  pub first_refused : None ≡ line_patterns 1 text → Err Unlisted ≡ reading_of (read_text text)
-  unfolding reading_of
-  first_refused e = ap reading_of (first_bad e)
+  pub first_inside : line_form 1 text ≡ true → 12 ≤ length text
+  first_inside e = form_long 1 text e
 
-  pub first_untouched : (l : List Float) → None ≡ line_patterns 1 text → l ≡ onto (numbers_given (read_text text)) l
-  unfolding numbers_given
-  first_untouched l e = ap (λ (c : Content). onto (numbers_given c) l) (first_bad e)
+  pub lines_are : take (length text - 12) (drop 12 text) ≡ drop 12 text
+  lines_are = take_all (length text - 12) (drop 12 text) (rw length-drop (le_refl _))
 
-  module _ (ps : List ℕ) (e : Some ps ≡ line_patterns 1 text) where
-    first_form : (line_form 1 text ≡ true) × (ps ≡ line_values 1 text)
-    first_form = patterns_form 1 text ps e
-
-    pub first_inside : 12 ≤ length text
-    first_inside = form_long 1 text first_form.0
-
-    first_value : get_or ps 0 0 ≡ field_value (take 11 text)
-    unfolding line_values
-    first_value = ap (λ (l : List ℕ). get_or l 0 0) first_form.1
-
-    lines_are : take (length text - 12) (drop 12 text) ≡ drop 12 text
-    lines_are = take_all (length text - 12) (drop 12 text) (rw length-drop (le_refl _))
-
-    read_rest : read_lines (get_or ps 0 0) 256 (take (length text - 12) (drop 12 text)) ≡ read_text text
-    unfolding read_text
-    read_rest = (λ i. read_lines (first_value i) 256 (lines_are i)) ∙ rw first_form.0
-
-    pub rest_reading : (r : Result Reading Refusal) → r ≡ reading_of (read_lines (get_or ps 0 0) 256 (take (length text - 12) (drop 12 text))) → r ≡ reading_of (read_text text)
-    rest_reading r r_is = r_is ∙ ap reading_of read_rest
-
-    pub rest_written : (l l' : List Float) → l' ≡ onto (numbers_given (read_lines (get_or ps 0 0) 256 (take (length text - 12) (drop 12 text)))) l → l' ≡ onto (numbers_given (read_text text)) l
-    rest_written l l' l_is = l_is ∙ ap (λ (c : Content). onto (numbers_given c) l) read_rest
-
-    pub rest_untouched : (r : Refusal) (l : List Float) → Err r ≡ reading_of (read_lines (get_or ps 0 0) 256 (take (length text - 12) (drop 12 text))) → l ≡ onto (numbers_given (read_text text)) l
-    unfolding numbers_given
-    rest_untouched r l e = go (read_text text) (e ∙ ap reading_of read_rest)
-      where
-        go : (c : Content) → Err r ≡ reading_of c → l ≡ onto (numbers_given c) l
-        go (faulty q) f = refl
-        go (given flag ps) f = let same : Err r ≡ reading flag (length ps / 6) = (unfold reading_of in f) in cc
-
-pub ruleset readings = (first_refused, first_untouched, first_inside, rest_reading, rest_written, rest_untouched)
+pub ruleset readings = (first_value, first_inside, lines_are)

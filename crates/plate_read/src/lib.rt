@@ -12,11 +12,13 @@ use std::num::f32_from_bits_with_nan;
 // What a text in form gives: the closed flag, and how many vertices there are.
 #[derive(Clone, Copy)]
 pub struct Reading {
+    // A number, since any may stand in a text: the drawing call refuses what is neither 0 nor 1.
     pub closed: u32,
     pub count: usize,
 }
 
 // The value of digits, if they are digits and it is a pattern of 32 bits.
+#[tactic(auto, using(crate::proofs::Fields::values))]
 fn digits_value(digits: &[u8]) -> Option<u32>
     ensures { result ≡ pattern_after 0 digits.now }
 {
@@ -39,6 +41,7 @@ fn after_blanks(field: &[u8; 11]) -> Option<usize>
 }
 
 // The value of a field: blanks, and then digits, one or more.
+#[tactic(auto, using(crate::proofs::Fields::fields))]
 fn field_value(field: &[u8; 11]) -> Option<u32>
     ensures { result ≡ field_pattern field.now }
 {
@@ -47,6 +50,7 @@ fn field_value(field: &[u8; 11]) -> Option<u32>
 }
 
 // The values of N fields, if they and a newline stand at the start of a text.
+#[tactic(auto, using(crate::proofs::Lines::lines), unfolding(crate::specs::Fields::line_patterns, crate::specs::Fields::field_pattern))]
 fn line_values<const N: usize>(text: &[u8]) -> Option<[u32; N]>
     ensures { result ≡ line_patterns N text.now }
 {
@@ -65,6 +69,7 @@ fn line_values<const N: usize>(text: &[u8]) -> Option<[u32; N]>
 
 // Reads the vertex lines, and writes six numbers for each of them from the start of a list.
 // After a refusal the list may hold the numbers of the lines before.
+#[tactic(auto, using(crate::proofs::Fills::fills), unfolding(crate::specs::Text::before, crate::specs::Text::reading_of, crate::specs::Text::numbers_given))]
 fn read_lines(lines: &[u8], closed: u32, numbers: &mut [f32; 1536]) -> Result<Reading, Refusal>
     ensures value { result ≡ reading_of (read_lines closed most_vertices lines.now) }
     ensures numbers_after { IfOk result (λ r. numbers.new ≡ onto (numbers_given (read_lines closed most_vertices lines.now)) numbers.old) }
@@ -84,6 +89,7 @@ fn read_lines(lines: &[u8], closed: u32, numbers: &mut [f32; 1536]) -> Result<Re
 
 // Reads a text, and writes the six numbers of each vertex from the start of `vertices`.
 // A refusal writes nothing. A vertex is six numbers of one flat list, as C hands vertices over.
+#[tactic(auto, using(crate::proofs::Fills::readings), unfolding(crate::specs::Text::read_text, crate::specs::Text::reading_of, crate::specs::Text::numbers_given, crate::specs::Fields::line_patterns))]
 pub fn read(text: &[u8], vertices: &mut [f32; 1536]) -> Result<Reading, Refusal>
     ensures value { result ≡ reading_of (read_text text.now) }
     ensures vertices_after { vertices.new ≡ onto (numbers_given (read_text text.now)) vertices.old }

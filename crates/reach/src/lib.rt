@@ -14,6 +14,7 @@ fn is_length(least: f32) -> bool
     float::is_finite(least) && 0.0 <= least
 }
 
+// Codes and numbers are two parameters for the reason at `judge::judge`.
 // Whether the length of a list is at least `least`, and how many commands were read for it. What follows the command that
 // tells it is not read.
 #[tactic(auto, using(crate::proofs::Ways::reaching))]
