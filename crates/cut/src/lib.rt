@@ -61,6 +61,7 @@ fn trim_measured(trim: TrimStyle, total: f32) -> Outcome<(f32, Ranges)>
 }
 
 // A trim of a lent command list.
+// Codes and numbers are two parameters for the reason at `judge::judge`.
 #[tactic(auto, unfolding(crate::specs::Calls::trim_lengths))]
 pub fn trim_lengths(trim: TrimStyle, codes: &[u8], numbers: &[f32]) -> Outcome<(f32, Ranges)>
     ensures { result ≡ trim_lengths trim codes.now numbers.now }
