@@ -78,19 +78,6 @@ pub fn tell_size(size: Outcome<Size>, codes: &mut usize, numbers: &mut usize) ->
     tell(size.map(|size| (size.codes, size.numbers)), codes, numbers)
 }
 
-// The code of a command.
-pub fn code(command: PathCommand) -> u8
-    ensures { result ≡ code_of command }
-{
-    match command {
-        PathCommand::Move(_, _) => 0,
-        PathCommand::Line(_, _) => 1,
-        PathCommand::Cubic(_, _, _, _, _, _) => 2,
-        PathCommand::Close => 3,
-        PathCommand::Quad(_, _, _, _) => 4,
-    }
-}
-
 // Numbers at a place, and the place after them.
 pub fn put<const N: usize>(numbers: &mut [f32], at: usize, values: [f32; N]) -> usize
     requires { at + N ≤ length numbers.old }
@@ -102,15 +89,30 @@ pub fn put<const N: usize>(numbers: &mut [f32], at: usize, values: [f32; N]) -> 
     at + N
 }
 
-// A command's numbers at a place, and the place after them.
-pub fn put_numbers(command: PathCommand, numbers: &mut [f32], at: usize) -> usize
-    requires { at + length (coordinates_of command) ≤ length numbers.old }
-    ensures { (result ≡ at + length (coordinates_of command)) × (numbers.new ≡ sets numbers.old at (coordinates_of command)) }
-{
-    match command {
-        PathCommand::Move(x, y) | PathCommand::Line(x, y) => put(numbers, at, [x, y]),
-        PathCommand::Cubic(ax, ay, bx, by, x, y) => put(numbers, at, [ax, ay, bx, by, x, y]),
-        PathCommand::Close => at,
-        PathCommand::Quad(ax, ay, x, y) => put(numbers, at, [ax, ay, x, y]),
+impl PathCommand {
+    // Its code.
+    pub fn code(self) -> u8
+        ensures { result ≡ code_of self }
+    {
+        match self {
+            PathCommand::Move(_, _) => 0,
+            PathCommand::Line(_, _) => 1,
+            PathCommand::Cubic(_, _, _, _, _, _) => 2,
+            PathCommand::Close => 3,
+            PathCommand::Quad(_, _, _, _) => 4,
+        }
+    }
+
+    // Its numbers at a place, and the place after them.
+    pub fn put_numbers(self, numbers: &mut [f32], at: usize) -> usize
+        requires { at + length (coordinates_of self) ≤ length numbers.old }
+        ensures { (result ≡ at + length (coordinates_of self)) × (numbers.new ≡ sets numbers.old at (coordinates_of self)) }
+    {
+        match self {
+            PathCommand::Move(x, y) | PathCommand::Line(x, y) => put(numbers, at, [x, y]),
+            PathCommand::Cubic(ax, ay, bx, by, x, y) => put(numbers, at, [ax, ay, bx, by, x, y]),
+            PathCommand::Close => at,
+            PathCommand::Quad(ax, ay, x, y) => put(numbers, at, [ax, ay, x, y]),
+        }
     }
 }

@@ -20,10 +20,10 @@ impl<'a> Sheet<'a> {
         requires { HasRoom (command ∷ []) self.old }
         ensures { Wrote (command ∷ []) self.old self.new }
     {
-        self.codes[self.at.codes] = command::code(command);
+        self.codes[self.at.codes] = command.code();
         self.at = Size {
             codes: self.at.codes + 1,
-            numbers: command::put_numbers(command, self.numbers, self.at.numbers),
+            numbers: command.put_numbers(self.numbers, self.at.numbers),
         };
     }
 
