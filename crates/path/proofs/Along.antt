@@ -1,13 +1,13 @@
 -- Laws of vertices that are worked out by number: how many they are, each of them, the segments between them, and a closed path of them as a move,
 -- these, the segment back and a close. Assumes nothing.
 use mathlib.Core.Path.{◌≡◌, refl, ap, ap₂, ◌∙◌}
-use mathlib.Core.Bool.{Bool, true, false, cond}
+use mathlib.Core.Bool.{Bool, true, false}
 use mathlib.Core.List.{List, [], ◌∷◌, ◌++◌, append_assoc, append-nil}
 use Prim.Native.Nat.{ℕ, zero, suc, ◌+◌, ◌-◌, ◌≤◌, ◌<◌}
 use native.Mathlib.Nat.{not-suc-le-zero, le_of_suc-le-suc}
 use native.Mathlib.Omega.{arith}
 use lib.Ieee.{Float}
-use lib.ListN.{length, get_or, drop, length-append}
+use lib.ListN.{length, get_or, drop}
 use lib.Dec.{eqb}
 use mir.Val.{Fits}
 use mir.Syntax.{w64}
@@ -39,13 +39,6 @@ pub last_from : (vertex : ℕ → BezierVertex) (k n : ℕ) → last_of (vertex 
 unfolding vertices_from last_of
 last_from vertex k zero = ap vertex (omega arith)
 last_from vertex k (suc n) = last_from vertex (suc k) n ∙ ap vertex (omega arith)
-
-pub bezier_length : (c : Bool) (vs : List BezierVertex) → 1 < length vs → length (bezier_path c vs) ≡ cond c (length vs + 2) (length vs)
-unfolding bezier_path
-bezier_length c [] h = absurd (not-suc-le-zero h)
-bezier_length c (a ∷ []) h = absurd (not-suc-le-zero (le_of_suc-le-suc h))
-bezier_length false (a ∷ (b ∷ bs)) h = rw segments_length
-bezier_length true (a ∷ (b ∷ bs)) h = rw (length-append, segments_length, length-append) (omega arith)
 
 module _ (vertex : ℕ → BezierVertex) (count : ℕ) where
   pub along_length : length (segments_along vertex count) ≡ count - 1

@@ -7,5 +7,4 @@ pub mod Sound
 pub mod Accepted
 pub mod Single
 pub mod Segment
-pub mod Ways
 pub mod Along

@@ -42,6 +42,7 @@ impl BezierVertex {
     }
 
     // The segment to the next vertex.
+    #[tactic(auto, unfolding(crate::specs::Path::bezier_segment))]
     pub fn segment_to(self, next: BezierVertex) -> PathCommand
         ensures { result ≡ bezier_segment self next }
     {
@@ -130,7 +131,8 @@ pub fn end_place(line: bool, at: usize) -> usize
     if line { at } else { at + 4 }
 }
 
-// How many commands the path has.
+// How many commands the path has. The flag stays the number that C lends, as in each function that takes it: with any number but
+// 1 a path is open, and a bool would ask the caller to say so first.
 pub fn bezier_count(closed: u32, count: usize) -> usize
     requires { count ≤ 1024 }
     ensures { result ≡ bezier_count closed count }

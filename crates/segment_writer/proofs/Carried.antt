@@ -105,9 +105,6 @@ module _ (vertex : ℕ → BezierVertex) (count : ℕ) where
       rw e at (take_more ds (k - 1) Close (omega (arith, along_length vertex count)))
       ∙ ap (λ (c : PathCommand). take (k - 1) ds ++ c ∷ []) (rw e at (along_at vertex count (k - 1) (omega arith)))
 
-  pub carried_start : 1 < count → (p : Sheet) (first : BezierVertex) → first ≡ vertex 0 → Carried vertex count p p first 1
-  carried_start several p first e = record { written = followed_none p; here = e; some = omega arith; inside = several }
-
   module _ (p q : Sheet) (a : BezierVertex) (k : ℕ) (C : Carried vertex count p q a k) (b : BezierVertex) (b_is : b ≡ vertex k) where
     c_is : bezier_segment (vertex (k - 1)) (vertex k) ≡ bezier_segment a b
     c_is = ap₂ bezier_segment (sym C.here) (sym b_is)
@@ -131,11 +128,11 @@ module _ (vertex : ℕ → BezierVertex) (count : ℕ) where
           segment_numbers (vertex k) (vertex (k + 1)),
         )
 
-    pub carried_room : k < count - 1 → HasRoom ds p → FollowedRoom (bezier_segment a b) q
-    carried_room h room = followed_room (take (k - 1) ds) (bezier_segment a b) two p q C.written ds (drop k ds) all_is room (two_more h)
+    pub carried_room : (n : ℕ) → n ≡ count → k < n - 1 → HasRoom ds p → FollowedRoom (bezier_segment a b) q
+    carried_room n e h room = followed_room (take (k - 1) ds) (bezier_segment a b) two p q C.written ds (drop k ds) all_is room (two_more (omega arith))
 
-    pub carried_on : k < count - 1 → (r : Sheet) → Followed (bezier_segment a b ∷ []) q r → Carried vertex count p r b (k + 1)
-    carried_on h r F =
+    pub carried_on : (n : ℕ) → n ≡ count → k < n - 1 → (r : Sheet) → Followed (bezier_segment a b ∷ []) q r → Carried vertex count p r b (k + 1)
+    carried_on n e h r F =
         let same : k + 1 - 1 ≡ k = omega arith in
         record {
           written = rw (same, part_is) (followed_more (take (k - 1) ds) (bezier_segment a b) two p q C.written r F);
@@ -144,15 +141,20 @@ module _ (vertex : ℕ → BezierVertex) (count : ℕ) where
           inside = omega arith;
         }
 
-    -- the last segment is written and nothing else
-    module _ (last : count - 1 ≤ k) (c : PathCommand) (is : c ≡ bezier_segment a b) where
-      pub last_room : HasRoom ds p → HasRoom (c ∷ []) q
-      last_room room = rw is (last_fits (take (k - 1) ds) (bezier_segment a b) two p q C.written ds (drop k ds) all_is room)
+  -- the last segment is written and nothing else
+  module _ (p q : Sheet) (a : BezierVertex) (k : ℕ) (C : Carried vertex count p q a k) (n : ℕ) (n_is : n ≡ count) (last : n - 1 ≤ k) (b : BezierVertex)
+      (b_is : b ≡ vertex (n - 1)) (c : PathCommand) (is : c ≡ bezier_segment a b) where
+    last_is : b ≡ vertex k
+    last_is = b_is ∙ ap vertex (omega (arith, C.inside))
 
-      pub last_wrote : (r : Sheet) → Wrote (c ∷ []) q r → Wrote ds p r
-      last_wrote r W =
-          let e : ds ≡ take (k - 1) ds ++ bezier_segment a b ∷ [] = sym (take_all k ds (omega (arith, along_length vertex count))) ∙ part_is in
-          rw e (followed_last (take (k - 1) ds) (bezier_segment a b) two p q C.written r (rw is at W))
+    pub last_room : HasRoom ds p → HasRoom (c ∷ []) q
+    last_room room =
+        rw is (last_fits (take (k - 1) ds) (bezier_segment a b) (two p q a k C b last_is) p q C.written ds (drop k ds) (all_is p q a k C b last_is) room)
 
-pub last_vertex : (vertex : ℕ → BezierVertex) (count k last : ℕ) (b : BezierVertex) → b ≡ vertex last → last ≡ count - 1 → last ≤ k → k < count → b ≡ vertex k
-last_vertex vertex count k last b is e h inside = is ∙ ap vertex (omega arith)
+    pub last_wrote : (r : Sheet) → Wrote (c ∷ []) q r → Wrote ds p r
+    last_wrote r W =
+        let e : ds ≡ take (k - 1) ds ++ bezier_segment a b ∷ [] =
+        sym (take_all k ds (omega (arith, along_length vertex count))) ∙ part_is p q a k C b last_is in
+        rw e (followed_last (take (k - 1) ds) (bezier_segment a b) (two p q a k C b last_is) p q C.written r (rw is at W))
+
+pub ruleset carryings = (carried_room, carried_on, last_room, last_wrote)

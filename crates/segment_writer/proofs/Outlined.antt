@@ -1,96 +1,63 @@
 -- The path of an outline is written in parts: a move, the segments between the vertices, and what closes it. Assumes nothing.
 use mathlib.Core.Path.{◌≡◌, refl}
 use mathlib.Core.Bool.{Bool, true, false}
-use mathlib.Core.List.{List, [], ◌∷◌, ◌++◌}
+use mathlib.Core.List.{List, [], ◌∷◌, ◌++◌, append-nil}
 use Prim.Native.Nat.{ℕ, ◌-◌, ◌<◌}
 use native.Mathlib.Omega.{arith}
-use borrow.Author.Tests.{eqb-true, eqb-false}
-use lib.Dec.{eqb}
-use lib.Ieee.{Float}
 use Rattle.command.specs.declared.PathCommand.{PathCommand}
-use Rattle.command.specs.declared.PathCommand.TheVariants.{Move, Line, Close}
+use Rattle.command.specs.declared.PathCommand.TheVariants.{Move, Close}
 use Rattle.path.specs.declared.BezierVertex.{BezierVertex}
-use Rattle.path.specs.Path.{vertex_at, bezier_segment, path_commands}
+use Rattle.path.specs.Path.{bezier_segment}
 use Rattle.path.specs.Between.{path_along, segments_along}
-use Rattle.path.proofs.Along.{along_one, along_open, along_closed, commands_along}
+use Rattle.path.proofs.Along.{along_open, along_closed}
 use Rattle.sheet.specs.declared.Sheet.{Sheet}
 use Rattle.sheet.specs.Sheets.{HasRoom, Wrote}
-use Rattle.sheet.proofs.Written.{room_first, room_next, wrote_both}
+use Rattle.sheet.proofs.Written.{room_first, room_next, wrote_none, wrote_both}
 
-pub more_than_one : (n m : ℕ) → m ≡ n → 0 < n → (m ≡ 1 → ⊥) → 1 < n
-more_than_one n m e some one = omega arith
-
-module _ (vertex : ℕ → BezierVertex) (count : ℕ) (first : BezierVertex) (first_is : first ≡ vertex 0) where
+module _ (vertex : ℕ → BezierVertex) (count : ℕ) (some : 0 < count) (n : ℕ) (n_is : n ≡ count) (more : n ≡ 1 → ⊥) (first : BezierVertex)
+    (first_is : first ≡ vertex 0) where
   abbrev begin : PathCommand
   begin = Move first.x first.y
 
   abbrev segments : List PathCommand
   segments = segments_along vertex count
 
-  one : (closed : Bool) → count ≡ 1 → path_along closed vertex count ≡ (begin ∷ []) ++ Line first.x first.y ∷ []
-  one closed e = rw first_is (along_one vertex count closed e)
+  abbrev back : Bool → List PathCommand
+  back false = []
+  back true = bezier_segment (vertex (count - 1)) first ∷ Close ∷ []
 
-  left_open : 1 < count → path_along false vertex count ≡ (begin ∷ []) ++ segments
-  left_open h = rw first_is (along_open vertex count h)
+  whole : (closed : Bool) → path_along closed vertex count ≡ (begin ∷ []) ++ (segments ++ back closed)
+  whole false = rw (first_is, append-nil) (along_open vertex count (omega arith))
+  whole true = rw first_is (along_closed vertex count (omega arith))
 
-  round : (last : BezierVertex) → last ≡ vertex (count - 1) → 1 < count
-      → path_along true vertex count ≡ (begin ∷ segments) ++ bezier_segment last first ∷ Close ∷ []
-  round last is h = rw (first_is, is) (along_closed vertex count h)
+  module _ (closed : Bool) (p : Sheet) (room : HasRoom (path_along closed vertex count) p) where
+    pub begin_room : HasRoom (begin ∷ []) p
+    begin_room = room_first (path_along closed vertex count) (begin ∷ []) (segments ++ back closed) (whole closed) p p room
 
-  module _ (closed : Bool) (p q : Sheet) (room : HasRoom (path_along closed vertex count) p) where
-    pub begin_room : 0 < count → HasRoom (begin ∷ []) p
-    begin_room some = go closed (eqb count 1) refl room
-      where
-        go : (c b : Bool) → eqb count 1 ≡ b → HasRoom (path_along c vertex count) p → HasRoom (begin ∷ []) p
-        go c true e = room_first (path_along c vertex count) (begin ∷ []) (Line first.x first.y ∷ []) (one c (eqb-true count 1 e)) p p
-        go false false e =
-            let h = more_than_one count count refl some (eqb-false count 1 e) in
-            room_first (path_along false vertex count) (begin ∷ []) segments (left_open h) p p
-        go true false e =
-            let h = more_than_one count count refl some (eqb-false count 1 e) in
-            room_first (path_along true vertex count) (begin ∷ []) (segments ++ bezier_segment (vertex (count - 1)) first ∷ Close ∷ []) (round (vertex (count - 1)) refl h) p p
+    module _ (q : Sheet) (w : Wrote (begin ∷ []) p q) where
+      after : HasRoom (segments ++ back closed) q
+      after = room_next (path_along closed vertex count) (begin ∷ []) (segments ++ back closed) (whole closed) p q room w
 
-    module _ (w : Wrote (begin ∷ []) p q) where
-      pub line_room : count ≡ 1 → HasRoom (Line first.x first.y ∷ []) q
-      line_room e = room_next (path_along closed vertex count) (begin ∷ []) (Line first.x first.y ∷ []) (one closed e) p q room w
+      pub segments_room : HasRoom segments q
+      segments_room = room_first (segments ++ back closed) segments (back closed) refl q q after
 
-      pub line_wrote : count ≡ 1 → (r : Sheet) → Wrote (Line first.x first.y ∷ []) q r → Wrote (path_along closed vertex count) p r
-      line_wrote e r v = wrote_both (path_along closed vertex count) (begin ∷ []) (Line first.x first.y ∷ []) (one closed e) p q r w v
+      module _ (r : Sheet) (v : Wrote segments q r) where
+        all_wrote : (s : Sheet) → Wrote (back closed) r s → Wrote (path_along closed vertex count) p s
+        all_wrote s x =
+            wrote_both (path_along closed vertex count) (begin ∷ []) (segments ++ back closed) (whole closed) p q s w
+            (wrote_both (segments ++ back closed) segments (back closed) refl q r s v x)
 
-      module _ (several : 1 < count) where
-        pub segments_room : HasRoom segments q
-        segments_room = go closed room
-          where
-            go : (c : Bool) → HasRoom (path_along c vertex count) p → HasRoom segments q
-            go false h = room_next (path_along false vertex count) (begin ∷ []) segments (left_open several) p q h w
-            go true h =
-                let back : List PathCommand = bezier_segment (vertex (count - 1)) first ∷ Close ∷ [] in
-                room_first (segments ++ back) segments back refl q q
-                (room_next (path_along true vertex count) (begin ∷ []) (segments ++ back) (round (vertex (count - 1)) refl several) p q h w)
+        pub open_wrote : closed ≡ false → Wrote (path_along closed vertex count) p r
+        open_wrote e = all_wrote r (rw e (wrote_none r))
 
-        module _ (r : Sheet) (v : Wrote segments q r) where
-          both : Wrote (begin ∷ segments) p r
-          both = wrote_both (begin ∷ segments) (begin ∷ []) segments refl p q r w v
+        module _ (e : closed ≡ true) (last : BezierVertex) (last_is : last ≡ vertex (count - 1)) (c : PathCommand) (c_is : c ≡ bezier_segment last first) where
+          back_is : c ∷ Close ∷ [] ≡ back closed
+          back_is = rw (e, c_is, last_is)
 
-          pub open_wrote : closed ≡ false → Wrote (path_along closed vertex count) p r
-          open_wrote e = rw (e, left_open several) both
+          pub back_room : HasRoom (c ∷ Close ∷ []) r
+          back_room = rw back_is (room_next (segments ++ back closed) segments (back closed) refl q r after v)
 
-          -- the segment from the last vertex back to the first, c, and a close
-          module _ (shut : closed ≡ true) (last : BezierVertex) (last_is : last ≡ vertex (count - 1)) (c : PathCommand) (c_is : c ≡ bezier_segment last first) where
-            is : path_along closed vertex count ≡ (begin ∷ segments) ++ c ∷ Close ∷ []
-            is = rw (shut, c_is) (round last last_is several)
+          pub closed_wrote : (s : Sheet) → Wrote (c ∷ Close ∷ []) r s → Wrote (path_along closed vertex count) p s
+          closed_wrote s x = all_wrote s (rw back_is at x)
 
-            closing_room : HasRoom (c ∷ Close ∷ []) r
-            closing_room = room_next (path_along closed vertex count) (begin ∷ segments) (c ∷ Close ∷ []) is p r room both
-
-            pub back_room : HasRoom (c ∷ []) r
-            back_room = room_first (c ∷ Close ∷ []) (c ∷ []) (Close ∷ []) refl r r closing_room
-
-            module _ (s : Sheet) (x : Wrote (c ∷ []) r s) where
-              pub close_room : HasRoom (Close ∷ []) s
-              close_room = room_next (c ∷ Close ∷ []) (c ∷ []) (Close ∷ []) refl r s closing_room x
-
-              pub closed_wrote : (t : Sheet) → Wrote (Close ∷ []) s t → Wrote (path_along closed vertex count) p t
-              closed_wrote t y =
-                  wrote_both (path_along closed vertex count) (begin ∷ segments) (c ∷ Close ∷ []) is p r t both
-                  (wrote_both (c ∷ Close ∷ []) (c ∷ []) (Close ∷ []) refl r s t x y)
+pub ruleset outlines = (segments_room, open_wrote, back_room, closed_wrote)

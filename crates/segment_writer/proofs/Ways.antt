@@ -12,7 +12,7 @@ use Rattle.command.specs.Commands.{code_of, coordinates_of}
 use Rattle.command.proofs.Buffers.{sets_append}
 use Rattle.path.specs.declared.BezierVertex.{BezierVertex}
 use Rattle.path.specs.Path.{out_x, out_y, in_x, in_y, is_line, bezier_segment}
-use Rattle.path.proofs.Segment.{line_or_cubic, segment_is, segment_numbers, place_after}
+use Rattle.path.proofs.Segment.{line_or_cubic, segment_is, place_after}
 use Rattle.sheet.specs.declared.Sheet.{Sheet}
 use Rattle.segment_writer.specs.Followed.{Followed}
 
@@ -35,9 +35,6 @@ module _ {A : Type 0} where
 
 -- ---- put_followed: t says whether the segment is a line
 module _ (a b : BezierVertex) (t : Bool) (t_is : t ≡ is_line a b) where
-  pub four_room : (at n : ℕ) → at + length (coordinates_of (bezier_segment a b)) + 2 ≤ n → at + 4 ≤ n
-  four_room at n h = omega (arith, segment_numbers a b)
-
   pub code_is : (codes : List ℕ) (i code : ℕ) → code ≡ cond t 1 2 → set codes i code ≡ set codes i (code_of (bezier_segment a b))
   code_is codes i code e = rw (segment_is a b t t_is, e) (go t)
     where

@@ -3,7 +3,7 @@
 #![tactic(auto)]
 
 ghost use Rattle.std.specs.Prelude.{◌≡◌, cond, [], ◌∷◌, ◌-◌, ◌<◌};
-ghost use Rattle.path.specs.Path.{bezier_segment, path_commands, Sound};
+ghost use Rattle.path.specs.Path.{bezier_segment, path_commands};
 ghost use Rattle.path.specs.Between.{path_along, segments_along};
 ghost use Rattle.sheet.specs.Sheets.{HasRoom, Wrote};
 ghost use Rattle.segment_writer.specs.Followed.{FollowedRoom, Followed};
@@ -21,6 +21,7 @@ fn segment_code(line: bool) -> u8
 
 // Writes a segment which two numbers or more are to follow, with no branch on what it is: its control points, and then its end,
 // which of a line stands in the place of the first. The second is left after it, where what follows will stand.
+#[tactic(auto, using(path::proofs::Segment::segment_numbers, crate::proofs::Ways::end_room))]
 fn put_followed(a: BezierVertex, b: BezierVertex, sheet: &mut Sheet)
     requires { FollowedRoom (bezier_segment a b) sheet.old }
     ensures { Followed (bezier_segment a b ∷ []) sheet.old sheet.new }
@@ -58,32 +59,29 @@ fn write_segments<O: Outline>(outline: &O, first: BezierVertex, sheet: &mut Shee
 }
 
 // Writes the path of an outline.
+#[tactic(auto, using(path::proofs::Along::along_one, crate::proofs::Outlined::begin_room))]
 pub fn write_outline<O: Outline>(closed: bool, outline: &O, sheet: &mut Sheet)
     requires { HasRoom (path_along closed (O.vertex outline.now) (O.count outline.now)) sheet.old }
     ensures { Wrote (path_along closed (O.vertex outline.now) (O.count outline.now)) sheet.old sheet.new }
 {
     let first = outline.vertex(0);
-    sheet.put(PathCommand::Move(first.x, first.y));
+    let start = PathCommand::Move(first.x, first.y);
     if outline.count() == 1 {
-        sheet.put(PathCommand::Line(first.x, first.y));
+        sheet.put_all(&[start, PathCommand::Line(first.x, first.y)]);
         return;
     }
+    sheet.put(start);
     let last = write_segments(outline, first, sheet);
     if closed {
-        sheet.put(last.segment_to(first));
-        sheet.put(PathCommand::Close);
+        sheet.put_all(&[last.segment_to(first), PathCommand::Close]);
     }
 }
 
-// Writes the path of the first `count` vertices.
-pub fn write_path(closed: u32, vertices: &[f32], count: usize, sheet: &mut Sheet)
-    requires sound { Sound vertices.now count }
-    requires room { HasRoom (path_commands closed vertices.now count) sheet.old }
-    ensures { Wrote (path_commands closed vertices.now count) sheet.old sheet.new }
+// Writes the path of a list of vertices. The flag is the number that C lends: with any but 1 the path is open.
+#[tactic(auto, using(path::proofs::Along::commands_along))]
+pub fn write_path(closed: u32, vertices: &Vertices<'_>, sheet: &mut Sheet)
+    requires { HasRoom (path_commands closed vertices.now.numbers.now vertices.now.count) sheet.old }
+    ensures { Wrote (path_commands closed vertices.now.numbers.now vertices.now.count) sheet.old sheet.new }
 {
-    let outline = Vertices {
-        numbers: vertices,
-        count: count,
-    };
-    write_outline(closed == 1, &outline, sheet);
+    write_outline(closed == 1, vertices, sheet);
 }

@@ -5,8 +5,6 @@ use mathlib.Core.Bool.{Bool, true, false, cond}
 use mathlib.Core.List.{List, [], ◌∷◌, ◌++◌}
 use Prim.Native.Nat.{ℕ, ◌+◌, ◌-◌, ◌*◌, ◌^◌, ◌≤◌, ◌<◌}
 use native.Mathlib.Omega.{arith}
-use lib.Dec.{eqb}
-use lib.Ieee.{Float}
 use lib.ListN.{length, drop, length-append, drop_of_length-le}
 use mir.Val.{Fits}
 use mir.Syntax.{w64}
@@ -15,11 +13,10 @@ use Rattle.command.specs.declared.PathCommand.TheVariants.{Close}
 use Rattle.command.specs.Commands.{coordinates_of, numbers_of}
 use Rattle.command.proofs.Lists.{numbers_few, split}
 use Rattle.path.specs.declared.BezierVertex.{BezierVertex}
-use Rattle.path.specs.Path.{is_line, vertex_at, bezier_segment, path_commands}
+use Rattle.path.specs.Path.{is_line, bezier_segment}
 use Rattle.path.specs.Between.{path_along, segments_along}
 use Rattle.path.proofs.Segment.{segment_numbers, place_after}
-use Rattle.path.proofs.Along.{along_length, along_at, begin, along_one, along_open, along_closed, commands_along, round_numbers}
-use Rattle.segments.specs.Leaves.{Passed}
+use Rattle.path.proofs.Along.{along_length, along_at, begin, along_one, along_open, along_closed, round_numbers}
 
 -- ---- the numbers of the segments from vertex j on
 module _ (vertex : ℕ → BezierVertex) (count : ℕ) where
@@ -31,7 +28,7 @@ module _ (vertex : ℕ → BezierVertex) (count : ℕ) where
       split (segments_along vertex count) j (omega (arith, along_length vertex count))
       ∙ ap (λ (c : PathCommand). length (coordinates_of c) + rest (j + 1)) (along_at vertex count j h)
 
-  rest_none : (j : ℕ) → count ≤ j + 1 → rest j ≡ 0
+  pub rest_none : (j : ℕ) → count ≤ j + 1 → rest j ≡ 0
   rest_none j h =
       ap (λ (l : List PathCommand). length (numbers_of l))
       (drop_of_length-le (segments_along vertex count) {i = j} (omega (arith, along_length vertex count)))
@@ -54,35 +51,7 @@ pub record Tally (vertex : ℕ → BezierVertex) (count : ℕ) (a : BezierVertex
   pub all : at + rest vertex count (k - 1) ≡ 2 + length (numbers_of (segments_along vertex count))
 
 module _ (vertex : ℕ → BezierVertex) (count : ℕ) where
-  -- from a vertex before which there are only cubics
-  module _ (start : ℕ) (P : Passed vertex count start) where
-    pub first_fits : count ≤ 1024 → Fits w64 (6 * start)
-    first_fits few = record { fits = omega (arith, P.inside) }
-
-    pub first_place_fits : count ≤ 1024 → Fits w64 (2 + 6 * start)
-    first_place_fits few = record { fits = omega (arith, P.inside) }
-
-    pub next_fits : count ≤ 1024 → Fits w64 (start + 1)
-    next_fits few = record { fits = omega (arith, P.inside) }
-
-    pub tally_start : (a : BezierVertex) → a ≡ vertex start → Tally vertex count a (start + 1) (2 + 6 * start)
-    tally_start a is =
-        let same : start + 1 - 1 ≡ start = omega arith in
-        record {
-          some = omega arith;
-          inside = omega (arith, P.inside);
-          here = rw same is;
-          few = omega arith;
-          all = rw same (omega (arith, P.same));
-        }
-
   module _ (a : BezierVertex) (k at : ℕ) (T : Tally vertex count a k at) where
-    pub four_fits : count ≤ 1024 → at + 4 < 2 ^ 64
-    four_fits limit = omega (arith, T.inside, T.few)
-
-    pub end_fits : count ≤ 1024 → (t : Bool) (end : ℕ) → end ≡ cond t at (at + 4) → Fits w64 (end + 2)
-    end_fits limit t end e = after_end_fits at t end (omega (arith, T.inside, T.few)) e
-
     pub tally_more : (b : BezierVertex) (t : Bool) (end : ℕ) → t ≡ is_line a b → end ≡ cond t at (at + 4) → k < count → b ≡ vertex k
         → Tally vertex count b (k + 1) (end + 2)
     tally_more b t end t_is end_is h is =
@@ -98,11 +67,7 @@ module _ (vertex : ℕ → BezierVertex) (count : ℕ) where
           all = rw same (omega (arith, T.all, step, place_after a b t at end t_is end_is));
         }
 
-    pub tally_end : count ≤ k → at ≡ 2 + length (numbers_of (segments_along vertex count))
-    tally_end g = omega (arith, T.all, rest_none vertex count (k - 1) (omega (arith, T.some)))
-
-    pub last_is : count ≤ k → a ≡ vertex (count - 1)
-    last_is g = T.here ∙ ap vertex (omega (arith, T.inside))
+pub ruleset tallies = (tally_more, rest_none)
 
 -- ---- the total
 module _ (vertex : ℕ → BezierVertex) (count : ℕ) where
@@ -119,22 +84,19 @@ module _ (vertex : ℕ → BezierVertex) (count : ℕ) where
     pub closed_fits : count ≤ 1024 → (t : Bool) (end : ℕ) → end ≡ cond t at (at + 4) → Fits w64 (end + 2)
     closed_fits few t end e = after_end_fits at t end (omega (arith, numbers_few (segments_along vertex count), along_length vertex count)) e
 
-    module _ (several : 1 < count) where
-      pub open_total : (closed : Bool) → closed ≡ false → at ≡ size closed
-      open_total closed e = rw e (omega (arith, ap (λ (l : List PathCommand). length (numbers_of l)) (along_open vertex count several)))
+    pub open_total : 1 < count → (closed : Bool) → closed ≡ false → at ≡ size closed
+    open_total several closed e = rw e (omega (arith, ap (λ (l : List PathCommand). length (numbers_of l)) (along_open vertex count several)))
 
-      -- the path left open, the segment from the last vertex back to the first, and a close
-      pub closed_total : (closed : Bool) → closed ≡ true → (z a : BezierVertex) (t : Bool) (end : ℕ) → t ≡ is_line z a → end ≡ cond t at (at + 4)
-          → z ≡ vertex (count - 1) → a ≡ vertex 0 → end + 2 ≡ size closed
-      closed_total closed c z a t end t_is end_is z_is a_is =
-          let left : List PathCommand = begin vertex count ∷ segments_along vertex count in
-          let cs = path_along true vertex count in
-          let is : cs ≡ left ++ bezier_segment z a ∷ Close ∷ [] = rw (z_is, a_is) (along_closed vertex count several) in
-          let n : length (numbers_of cs) ≡ length (numbers_of left) + length (coordinates_of (bezier_segment z a)) =
-          ap length (round_numbers cs left (bezier_segment z a) is) ∙ length-append (numbers_of left) (coordinates_of (bezier_segment z a)) in
-          rw c (omega (arith, n, place_after z a t at end t_is end_is))
+  -- the path left open, the segment from the last vertex back to the first, and a close
+  pub closed_total : (closed : Bool) → closed ≡ true → (end at : ℕ) (t : Bool) → end ≡ cond t at (at + 4) → (z a : BezierVertex) → t ≡ is_line z a
+      → z ≡ vertex (count - 1) → a ≡ vertex 0 → at ≡ 2 + length (numbers_of (segments_along vertex count)) → 0 < count → (n : ℕ) → n ≡ count → (n ≡ 1 → ⊥) → end + 2 ≡ size closed
+  closed_total closed c end at t end_is z a t_is z_is a_is at_is some n same more =
+      let several : 1 < count = omega arith in
+      let left : List PathCommand = begin vertex count ∷ segments_along vertex count in
+      let cs = path_along true vertex count in
+      let is : cs ≡ left ++ bezier_segment z a ∷ Close ∷ [] = rw (z_is, a_is) (along_closed vertex count several) in
+      let m : length (numbers_of cs) ≡ length (numbers_of left) + length (coordinates_of (bezier_segment z a)) =
+      ap length (round_numbers cs left (bezier_segment z a) is) ∙ length-append (numbers_of left) (coordinates_of (bezier_segment z a)) in
+      rw c (omega (arith, m, place_after z a t at end t_is end_is))
 
--- the flag is a number
-pub commands_total : (closed : ℕ) (v : List Float) (count n : ℕ) → n ≡ length (numbers_of (path_along (eqb closed 1) (vertex_at v) count))
-    → n ≡ length (numbers_of (path_commands closed v count))
-commands_total closed v count n e = rw (commands_along closed count v) e
+pub ruleset totals = (one_total, back_fits, closed_fits, open_total, closed_total)

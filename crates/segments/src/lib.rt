@@ -6,7 +6,7 @@
 
 ghost use Rattle.std.specs.Prelude.{◌≡◌, Bool, ◌&&◌, ◌+◌, ◌-◌, ◌*◌, ◌<◌, ◌≤◌, length, drop};
 ghost use Rattle.command.specs.Commands.{numbers_of};
-ghost use Rattle.path.specs.Path.{vertex_at, path_commands, Sound};
+ghost use Rattle.path.specs.Path.{vertex_at, path_commands};
 ghost use Rattle.path.specs.Between.{path_along, segments_along};
 ghost use Rattle.segments.specs.Leaves.{leaves, Passed};
 
@@ -39,25 +39,23 @@ fn four_leave(vertices: &[f32], j: usize) -> bool
         & (leaves(vertices, j + 2) & leaves(vertices, j + 3))
 }
 
-// A vertex before which there are only cubics. A list of cubics is passed over four at a time, up to its last few: by a `while`, since
-// a range has no step that is taken only where the four vertices leave.
-fn cubics_before(vertices: &[f32], count: usize) -> usize
-    requires { Sound vertices.now count }
-    ensures { Passed (vertex_at vertices.now) count result }
+// A vertex before which there are only cubics. A list of cubics is passed over four at a time, up to its last few.
+#[tactic(auto, using(crate::proofs::Ways::passed_four))]
+fn cubics_before(vertices: &Vertices<'_>) -> usize
+    ensures { Passed (vertex_at vertices.now.numbers.now) vertices.now.count result }
 {
-    let mut j: usize = 0;
-    while j + 4 < count {
-        if four_leave(vertices, j) {
-            j += 4;
-        } else {
-            return j;
+    let fours = (vertices.count - 1) / 4;
+    for k in 0..fours {
+        if !four_leave(vertices.numbers, 4 * k) {
+            return 4 * k;
         }
     }
-    j
+    4 * fours
 }
 
 // How many numbers a move and the segments between the vertices have, and the last vertex; those before `start` are cubics. They are
 // counted by the place of a segment's end: so the compiler tests the four differences of a segment together.
+#[tactic(auto, using(crate::proofs::Tally::tallies))]
 fn numbers_between<O: Outline>(outline: &O, start: usize) -> Reached
     requires { Passed (O.vertex outline.now) (O.count outline.now) start }
     ensures vertex_value { result.vertex ≡ O.vertex outline.now (O.count outline.now - 1) }
@@ -74,6 +72,7 @@ fn numbers_between<O: Outline>(outline: &O, start: usize) -> Reached
 }
 
 // How many numbers the path of an outline has, of whose segments those before `start` are cubics.
+#[tactic(auto, using(crate::proofs::Tally::totals))]
 pub fn outline_numbers<O: Outline>(closed: bool, outline: &O, start: usize) -> usize
     requires { Passed (O.vertex outline.now) (O.count outline.now) start }
     ensures { result ≡ length (numbers_of (path_along closed (O.vertex outline.now) (O.count outline.now))) }
@@ -89,14 +88,10 @@ pub fn outline_numbers<O: Outline>(closed: bool, outline: &O, start: usize) -> u
     reached.at
 }
 
-// How many numbers the path of the first `count` vertices has.
-pub fn path_numbers(closed: u32, vertices: &[f32], count: usize) -> usize
-    requires { Sound vertices.now count }
-    ensures { result ≡ length (numbers_of (path_commands closed vertices.now count)) }
+// How many numbers the path of a list of vertices has. The flag is the number that C lends: with any but 1 the path is open.
+#[tactic(auto, using(path::proofs::Along::commands_along))]
+pub fn path_numbers(closed: u32, vertices: &Vertices<'_>) -> usize
+    ensures { result ≡ length (numbers_of (path_commands closed vertices.now.numbers.now vertices.now.count)) }
 {
-    let outline = Vertices {
-        numbers: vertices,
-        count: count,
-    };
-    outline_numbers(closed == 1, &outline, cubics_before(vertices, count))
+    outline_numbers(closed == 1, vertices, cubics_before(vertices))
 }
