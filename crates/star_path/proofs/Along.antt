@@ -3,8 +3,6 @@ use mathlib.Core.Path.{◌≡◌, refl}
 use mathlib.Core.Bool.{true}
 use native.Mathlib.Omega.{arith}
 use Rattle.path.specs.Between.{path_along}
-use Rattle.sheet.specs.declared.Sheet.{Sheet}
-use Rattle.sheet.specs.Sheets.{HasRoom, Wrote}
 use Rattle.segments.specs.Leaves.{Passed}
 use Rattle.polystar.specs.declared.Polystar.{Polystar}
 use Rattle.polystar.specs.Polystar.{point_at, polystar_path, Sound}

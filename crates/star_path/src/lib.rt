@@ -5,7 +5,8 @@ ghost use Rattle.std.specs.Prelude.{◌≡◌, length};
 ghost use Rattle.command.specs.Commands.{numbers_of};
 ghost use Rattle.sheet.specs.Sheets.{HasRoom, Wrote};
 ghost use Rattle.polystar.specs.Polystar.{point_at, polystar_path, Sound};
-ghost use Rattle.star_path.specs.Points.{some_points};
+ghost use Rattle.std.proofs.Common.{lit<};
+ghost use Rattle.std.proofs.Math.Nat.{lt_trans};
 
 use path::{BezierVertex, Outline};
 use polystar::Polystar;
@@ -23,7 +24,7 @@ impl Outline for Points {
 
     ghost vertex = { λ points. point_at points.star };
 
-    ghost some = { λ points. some_points points.star points.sound };
+    ghost some = { λ points. lt_trans (lit< tt) points.sound.some };
 
     ghost few = { λ points. points.sound.few };
 
@@ -37,6 +38,7 @@ impl Outline for Points {
 }
 
 // Writes the path.
+#[tactic(auto, using(crate::proofs::Along::path_is))]
 pub fn write_star(star: Polystar, sheet: &mut Sheet)
     requires sound { Sound star }
     requires room { HasRoom (polystar_path star) sheet.old }
@@ -46,6 +48,7 @@ pub fn write_star(star: Polystar, sheet: &mut Sheet)
 }
 
 // How many numbers the path has.
+#[tactic(auto, using(crate::proofs::Along::path_is, crate::proofs::Along::none_passed))]
 pub fn star_numbers(star: Polystar) -> usize
     requires { Sound star }
     ensures { result ≡ length (numbers_of (polystar_path star)) }

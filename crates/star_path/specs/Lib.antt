@@ -1,2 +1,0 @@
--- What the points of a polystar keep to.
-pub mod Points
