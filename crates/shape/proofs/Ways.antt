@@ -4,15 +4,13 @@ use mathlib.Core.Path.{◌≡◌, sym, ap, ◌∙◌}
 use mathlib.Core.Bool.{Bool, true, false, ◌&&◌, and-eq-true_iff}
 use mathlib.Core.List.{List}
 use Prim.Native.Nat.{ℕ, ◌+◌, ◌*◌, ◌≤◌}
-use native.Mathlib.Nat.{zero-add, lt_of_le_of_lt, mul-le-mul_right}
+use native.Mathlib.Nat.{zero-add}
 use native.Mathlib.Omega.{arith}
-use mir.Val.{Fits}
-use mir.Syntax.{w64}
 use lib.Dec.{leb}
 use lib.Seq.{sets}
 use borrow.Author.Tests.{le-leb, leb-true}
-use lib.ListN.{length, get_or}
-use lib.Ieee.{Float, nan}
+use lib.ListN.{length}
+use lib.Ieee.{Float}
 use Rattle.command.specs.declared.PathCommand.{PathCommand}
 use Rattle.command.specs.declared.Refusal.TheVariants.{BufferTooSmall}
 use Rattle.command.specs.Commands.{codes_of, numbers_of}
@@ -20,113 +18,44 @@ use Rattle.command.specs.declared.Size.{Size}
 use Rattle.command.specs.Buffers.{fitted, in_buffers, FilledBoth, size_of, pair_of}
 use Rattle.command.proofs.Lists.{codes_length}
 use Rattle.command.proofs.Buffers.{fitted_accepted, fitted_refused, filled, both_unfilled}
-use Rattle.path.specs.Path.{bezier_count, path_commands}
+use Rattle.path.specs.Path.{bezier_count, path_commands, Sound}
 use Rattle.path.proofs.Paths.{path_commands_length}
 use Rattle.rect.specs.declared.Bounds.{Bounds}
 use Rattle.rect.specs.Rect.{rect_path}
-use Rattle.ellipse.proofs.Ways.{ellipse_count, ellipse_numbers}
 use Rattle.shape.specs.declared.Shape.{Shape}
-use Rattle.shape.specs.declared.Shape.TheVariants.{Path, Rect, Ellipse}
+use Rattle.shape.specs.declared.Shape.TheVariants.{Path}
 use Rattle.shape.specs.Shape.{shape_commands, Fit}
-use Rattle.shape.proofs.Enough.{shape_enough}
+use Rattle.shape.proofs.Enough.{path_sound, shape_enough}
 
 -- ---- a path
-module _ (closed count : ℕ) (v : List Float) (fit : Fit (Path closed count) v) where
-  pub path_count : (n : ℕ) → n ≡ bezier_count closed count → n ≡ length (shape_commands (Path closed count) v)
-  unfolding shape_commands
-  path_count n e = e ∙ sym (path_commands_length closed v count fit.some)
+pub path_sized : (closed count : ℕ) (v : List Float) → Sound v count → (n m : ℕ) → n ≡ bezier_count closed count
+    → m ≡ length (numbers_of (path_commands closed v count)) → (n, m) ≡ size_of (path_commands closed v count)
+path_sized closed count v sound n m n_is m_is =
+    rw (codes_length (path_commands closed v count), n_is, m_is, path_commands_length closed v count sound.some)
 
-  pub path_numbers : (m : ℕ) → m ≡ length (numbers_of (path_commands closed v count)) → m ≡ length (numbers_of (shape_commands (Path closed count) v))
-  unfolding shape_commands
-  path_numbers m e = e
-
-pub path_fit : (s : Shape) (v : List Float) (closed count : ℕ) → s ≡ Path closed count → Fit s v → Fit (Path closed count) v
-path_fit s v closed count is fit = rw is at fit
-
-pub path_few : (s : Shape) (v : List Float) (closed count : ℕ) → s ≡ Path closed count → Fit s v → count ≤ 1024
-path_few s v closed count is fit = (path_fit s v closed count is fit).few
-
-pub codes_fit : (count : ℕ) → count ≤ 1024 → Fits w64 (count + 2)
-codes_fit count small = record { fits = omega arith }
-
-module _ (count : ℕ) (small : count ≤ 1024) (k : ℕ) (h : k ≤ 6) where
-  pub six_fits : Fits w64 (k * count)
-  six_fits = record { fits = lt_of_le_of_lt (mul-le-mul_right count h) (omega arith) }
-
-  pub two_more_fit : Fits w64 (k * count + 2)
-  two_more_fit = record { fits = omega (arith, mul-le-mul_right count h) }
+pub path_fits : (s : Shape) (closed count : ℕ) → s ≡ Path closed count → (v : List Float) → Fit s v → Sound v count
+path_fits s closed count is v fit = path_sound closed count v (rw is at fit)
 
 -- ---- a rectangle
-module _ (radius : Float) (v : List Float) where
-  pub rect_count : (n : ℕ) → ((b : Bounds) → n ≡ length (rect_path b radius)) → n ≡ length (shape_commands (Rect radius) v)
-  unfolding shape_commands
-  rect_count n f = f _
-
-  pub rect_numbers : (m : ℕ) → ((b : Bounds) → m ≡ length (numbers_of (rect_path b radius))) → m ≡ length (numbers_of (shape_commands (Rect radius) v))
-  unfolding shape_commands
-  rect_numbers m f = f _
-
-pub rect_fit : (s : Shape) (v : List Float) (radius : Float) → s ≡ Rect radius → Fit s v → Fit (Rect radius) v
-rect_fit s v radius is fit = rw is at fit
-
--- ---- an ellipse
-module _ (v : List Float) where
-  pub ellipse_six : 6 ≡ length (shape_commands Ellipse v)
-  unfolding shape_commands
-  ellipse_six = sym (ellipse_count (get_or v 0 nan) (get_or v 1 nan) (get_or v 2 nan) (get_or v 3 nan))
-
-  pub ellipse_few : 26 ≡ length (numbers_of (shape_commands Ellipse v))
-  unfolding shape_commands
-  ellipse_few = sym (ellipse_numbers (get_or v 0 nan) (get_or v 1 nan) (get_or v 2 nan) (get_or v 3 nan))
-
-pub ellipse_fit : (s : Shape) (v : List Float) → s ≡ Ellipse → Fit s v → Fit Ellipse v
-ellipse_fit s v is fit = rw is at fit
-
-pub size_is : (cs : List PathCommand) (n m : ℕ) → n ≡ length cs → m ≡ length (numbers_of cs) → (n, m) ≡ size_of cs
-size_is cs n m e f = rw (codes_length cs, ← e, ← f)
-
--- ---- the arms of a match on the kind: room for a shape is room for the kind that it is, and what that kind has and writes the shape has and writes
-module _ (s t : Shape) (is : s ≡ t) (v : List Float) where
-  pub need_is : (r : Size) → pair_of r ≡ size_of (shape_commands t v) → pair_of r ≡ size_of (shape_commands s v)
-  need_is r e = rw is e
-
-  pub counts_are : (n m : ℕ) → n ≡ length (shape_commands t v) → m ≡ length (numbers_of (shape_commands t v)) → (n, m) ≡ size_of (shape_commands s v)
-  counts_are n m e f = rw is (size_is (shape_commands t v) n m e f)
-
--- all that the matches on the kind ask
-pub ruleset path_needs = (path_few, path_count, path_numbers, size_is)
-
-pub ruleset path_arms = (path_fit, path_few, path_count, path_numbers, codes_fit, six_fits, two_more_fit)
-
-pub ruleset rect_arms = (rect_fit, rect_count, rect_numbers)
-
-pub ruleset ellipse_arms = (ellipse_fit, ellipse_six, ellipse_few)
-
-pub ruleset arms = (path_arms, rect_arms, ellipse_arms, need_is, counts_are)
+pub rect_sized : (b : Bounds) (radius : Float) (n m : ℕ) → n ≡ length (rect_path b radius) → m ≡ length (numbers_of (rect_path b radius))
+    → (n, m) ≡ size_of (rect_path b radius)
+rect_sized b radius n m e f = rw (codes_length (rect_path b radius), ← e, ← f)
 
 -- ---- is_ample, holds and is_within
-pub path_ample : (s : Shape) (v : List Float) (closed count codes numbers : ℕ) → s ≡ Path closed count → Fit s v → count + 2 ≤ codes
-    → leb (6 * count + 2) numbers ≡ true → in_buffers codes numbers (shape_commands s v) ≡ true
-path_ample s v closed count codes numbers is fit a e =
-    let most = shape_enough (Path closed count) v (path_fit s v closed count is fit) in
-    let b = leb-true (6 * count + 2) numbers e in
+pub path_ample : (s : Shape) (v : List Float) (closed count : ℕ) (room : Size) → s ≡ Path closed count → Fit s v → count + 2 ≤ room.codes
+    → leb (6 * count + 2) room.numbers ≡ true → in_buffers room.codes room.numbers (shape_commands s v) ≡ true
+path_ample s v closed count room is fit a e =
+    let most = shape_enough (Path closed count) v (rw is at fit) in
+    let b = leb-true (6 * count + 2) room.numbers e in
     rw (
       is,
-      le-leb (size_of (shape_commands (Path closed count) v)).0 codes (omega arith),
-      le-leb (size_of (shape_commands (Path closed count) v)).1 numbers (omega arith),
+      le-leb (size_of (shape_commands (Path closed count) v)).0 room.codes (omega arith),
+      le-leb (size_of (shape_commands (Path closed count) v)).1 room.numbers (omega arith),
     )
 
-pub ruleset amples = (path_few, codes_fit, six_fits, two_more_fit)
-
-module _ (s : Shape) (v : List Float) (size : Size) (codes numbers : ℕ) (t : Bool) (t_is : t ≡ (leb size.codes codes && leb size.numbers numbers)) where
-  pub fits_by_need : pair_of size ≡ size_of (shape_commands s v) → t ≡ in_buffers codes numbers (shape_commands s v)
-  fits_by_need e = t_is ∙ ap (λ (n : ℕ × ℕ). leb n.0 codes && leb n.1 numbers) e
-
-pub fits_anyway : (s : Shape) (v : List Float) (codes numbers : ℕ) (t : Bool) → (t ≡ true → in_buffers codes numbers (shape_commands s v) ≡ true) → t ≡ true
-    → true ≡ in_buffers codes numbers (shape_commands s v)
-fits_anyway s v codes numbers t f e = sym (f e)
-
-pub ruleset fittings = (fits_by_need, fits_anyway)
+pub fits_by_need : (s : Shape) (v : List Float) (size room : Size) (t : Bool) → t ≡ (leb size.codes room.codes && leb size.numbers room.numbers)
+    → pair_of size ≡ size_of (shape_commands s v) → t ≡ in_buffers room.codes room.numbers (shape_commands s v)
+fits_by_need s v size room t t_is e = t_is ∙ ap (λ (n : ℕ × ℕ). leb n.0 room.codes && leb n.1 room.numbers) e
 
 -- ---- draw
 module _ (cs : List PathCommand) (codes : List ℕ) (numbers : List Float) (t : Bool) (t_is : t ≡ in_buffers (length codes) (length numbers) cs) where
@@ -148,11 +77,9 @@ module _ (cs : List PathCommand) (codes : List ℕ) (numbers : List Float) (t : 
     pub all_written : (n m : ℕ) (codes' : List ℕ) (numbers' : List Float) → n ≡ 0 + length (codes_of cs) → m ≡ 0 + length (numbers_of cs)
         → codes' ≡ sets codes 0 (codes_of cs) → numbers' ≡ sets numbers 0 (numbers_of cs)
         → FilledBoth (fitted (in_buffers (length codes) (length numbers)) (Ok cs)) 0 n m codes codes' numbers numbers'
-    all_written n m codes' numbers' n_is q c d =
+    all_written n m codes' numbers' i j c d =
         rw (fitted_accepted (in_buffers (length codes) (length numbers)) cs (sym t_is ∙ e))
         (record {
-          codes_filled = filled (codes_of cs) codes codes' n inside.0 (n_is ∙ zero-add _) c;
-          numbers_filled = filled (numbers_of cs) numbers numbers' m inside.1 (q ∙ zero-add _) d;
+          codes_filled = filled (codes_of cs) codes codes' n inside.0 (i ∙ zero-add _) c;
+          numbers_filled = filled (numbers_of cs) numbers numbers' m inside.1 (j ∙ zero-add _) d;
         })
-
-pub ruleset drawings = (too_small, codes_held, numbers_held, all_written)

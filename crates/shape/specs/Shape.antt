@@ -1,10 +1,8 @@
 -- What a shape draws, and room that is enough for it. Definitions only.
-use Rattle.std.specs.Prelude.{ℕ, ◌+◌, ◌*◌, ◌≤◌, List, Float, length, get_or}
+use Rattle.std.specs.Prelude.{ℕ, ◌+◌, ◌*◌, ◌<◌, ◌≤◌, List, Float, length, get_or}
 use Rattle.std.specs.Float.{nan}
-use Rattle.std.specs.Coded.{le_prop}
-use Rattle.std.proofs.Props.{props}
 use Rattle.command.specs.declared.PathCommand.{PathCommand}
-use Rattle.path.specs.Path.{path_commands, Sound}
+use Rattle.path.specs.Path.{path_commands}
 use Rattle.rect.specs.declared.Bounds.{Bounds}
 use Rattle.rect.specs.declared.Frame.{Frame}
 use Rattle.rect.specs.Bounds.{rect_bounds}
@@ -27,16 +25,17 @@ shape_commands (Path closed count) v = path_commands closed v count
 shape_commands (Rect radius) v = rect_path (bounds_of v) radius
 shape_commands Ellipse v = ellipse_path (get_or v 0 nan) (get_or v 1 nan) (get_or v 2 nan) (get_or v 3 nan)
 
--- what the checks leave to the drawing of a shape
-abbrev pub Fit : Shape → List Float → Type 0
-Fit (Path closed count) v = Sound v count
-Fit (Rect radius) v = 4 ≤ length v
-Fit Ellipse v = 4 ≤ length v
+-- how many numbers of its list a shape has: six a vertex, or centre and size
+abbrev pub numbers_in : Shape → ℕ
+numbers_in (Path closed count) = 6 * count
+numbers_in (Rect radius) = 4
+numbers_in Ellipse = 4
 
-pub fit_prop : (s : Shape) (v : List Float) → IsProp (Fit s v)
-fit_prop (Path closed count) v = Prim.hlevel props
-fit_prop (Rect radius) v = le_prop
-fit_prop Ellipse v = le_prop
+-- what the checks leave to the drawing of a shape: its numbers are there, those of one vertex or more and of at most 1,024
+pub record Fit (s : Shape) (v : List Float) : Type 0 where
+  pub some : 0 < numbers_in s
+  pub few : numbers_in s ≤ 6 * 1024
+  pub inside : numbers_in s ≤ length v
 
 -- ---- Room that is enough for a shape, whatever its numbers: what it needs is within this (`shape_enough` in proofs/Enough.antt).
 

@@ -1,19 +1,18 @@
 // A drawing of any kind: what it needs of two buffers, and its commands written to them.
 #![tactic(auto)]
 
-ghost use Rattle.std.specs.Prelude.{◌≡◌, true, ◌&&◌, ◌+◌, ◌≤◌, leb, length};
-ghost use Rattle.std.proofs.lemmas.List.Edits.{sets};
-ghost use Rattle.command.specs.Commands.{codes_of, numbers_of};
+ghost use Rattle.std.specs.Prelude.{◌≡◌, true, ◌&&◌, ◌≤◌, leb, length};
 ghost use Rattle.command.specs.Outcomes.{number_of};
 ghost use Rattle.command.specs.Buffers.{fitted, in_buffers, codes_told, numbers_told, FilledBoth, size_of, pair_of};
 ghost use Rattle.rect.specs.Bounds.{rect_bounds};
 ghost use Rattle.rect.specs.Rect.{rect_path};
 ghost use Rattle.ellipse.specs.Ellipse.{ellipse_path};
 ghost use Rattle.sheet.specs.Sheets.{HasRoom, Wrote};
-ghost use Rattle.shape.specs.declared.Shape.TheVariants.{Path};
-ghost use Rattle.shape.specs.Shape.{frame_of, shape_commands, Fit, fit_prop};
+ghost use Rattle.path.specs.Path.{path_commands};
+ghost use Rattle.shape.specs.Shape.{frame_of, shape_commands, Fit};
 
 use command::{Outcome, Refusal, Size};
+use path::Vertices;
 use point::Point;
 use rect::Frame;
 use sheet::Sheet;
@@ -21,8 +20,8 @@ use sheet::Sheet;
 // What is to be drawn, and what decides how much of it there is. Its numbers stand in the list of a `Drawing`.
 #[derive(Clone, Copy)]
 pub enum Shape {
-    // The closed flag, and how many vertices. The list has six numbers a vertex.
-    Path(u32, usize),
+    // The closed flag, as C lends it: with any number but 1 the path is open. And how many vertices: the list has six numbers for each.
+    Path { closed: u32, count: usize },
     // The radius of the corners. The list has the centre and the size.
     Rect(f32),
     // The list has the centre and the size.
@@ -34,20 +33,19 @@ pub enum Shape {
 pub struct Drawing<'a> {
     pub shape: Shape,
     pub list: &'a [f32],
-    ghost fits: { Fit shape list.now } by { fit_prop shape list.now },
+    ghost fits: { Fit shape list.now },
 }
 
 // What a path needs: each of its segments may be a line or a cubic, so all are looked at. This is a call of its own, so that
 // `need`, which stays small, can be inlined.
-#[tactic(auto, using(crate::proofs::Ways::path_needs))]
+#[tactic(auto, using(crate::proofs::Ways::path_sized))]
 #[inline(never)]
-fn path_need(closed: u32, count: usize, list: &[f32]) -> Size
-    requires { Fit (Path closed count) list.now }
-    ensures { pair_of result ≡ size_of (shape_commands (Path closed count) list.now) }
+fn path_need(closed: u32, vertices: &Vertices<'_>) -> Size
+    ensures { pair_of result ≡ size_of (path_commands closed vertices.now.numbers.now vertices.now.count) }
 {
     Size {
-        codes: path::bezier_count(closed, count),
-        numbers: segments::path_numbers(closed, list, count),
+        codes: path::bezier_count(closed, vertices.count),
+        numbers: segments::path_numbers(closed, vertices),
     }
 }
 
@@ -90,24 +88,30 @@ fn write_ellipse(frame: Frame, sheet: &mut Sheet)
     sheet.put_all(&ellipse::ellipse_commands(frame));
 }
 
-// Whether two buffers of these lengths have so many places.
-fn holds(size: Size, codes: usize, numbers: usize) -> bool
-    ensures { result ≡ (leb size.codes codes && leb size.numbers numbers) }
+// Whether there is room for so many codes and numbers.
+fn holds(room: Size, size: Size) -> bool
+    ensures { result ≡ (leb size.codes room.codes && leb size.numbers room.numbers) }
 {
-    size.codes <= codes && size.numbers <= numbers
+    size.codes <= room.codes && size.numbers <= room.numbers
 }
 
 impl<'a> Drawing<'a> {
     ghost use Rattle.shape.specs.Drawings.{commands_of};
 
     // What it needs, exactly: the one count that drawing, telling and merging go by.
-    #[tactic(auto, using(crate::proofs::Ways::arms))]
+    #[tactic(auto, using(crate::proofs::Ways::path_fits, crate::proofs::Ways::rect_sized), unfolding(crate::specs::Shape::shape_commands, ellipse::specs::Ellipse::ellipse_path))]
     #[inline(always)]
     pub fn need(&self) -> Size
         ensures { pair_of result ≡ size_of (commands_of self.now) }
     {
         match self.shape {
-            Shape::Path(closed, count) => path_need(closed, count, self.list),
+            Shape::Path { closed, count } => path_need(
+                closed,
+                &Vertices {
+                    numbers: self.list,
+                    count,
+                },
+            ),
             Shape::Rect(radius) => Size {
                 codes: rect::rect_count(radius),
                 numbers: rect::rect_numbers(radius),
@@ -119,68 +123,68 @@ impl<'a> Drawing<'a> {
         }
     }
 
-    // Writes it with a sheet.
-    #[tactic(auto, unfolding(crate::specs::Shape::shape_commands))]
-    fn put(&self, sheet: &mut Sheet)
+    // Writes it to a sheet that has room for it.
+    #[tactic(auto, using(crate::proofs::Ways::path_fits), unfolding(crate::specs::Shape::shape_commands))]
+    pub fn put(&self, sheet: &mut Sheet)
         requires { HasRoom (commands_of self.now) sheet.old }
         ensures { Wrote (commands_of self.now) sheet.old sheet.new }
     {
         match self.shape {
-            Shape::Path(closed, count) => segment_writer::write_path(
-                closed, self.list, count, sheet,
-            ),
+            Shape::Path { closed, count } => {
+                segment_writer::write_path(
+                    closed,
+                    &Vertices {
+                        numbers: self.list,
+                        count,
+                    },
+                    sheet,
+                )
+            }
             Shape::Rect(radius) => write_rect(radius, frame_of(self.list), sheet),
             Shape::Ellipse => write_ellipse(frame_of(self.list), sheet),
         }
     }
 
-    // Writes it at places of buffers that it fits, and gives the places after it.
-    pub fn write(&self, codes: &mut [u8], i: usize, numbers: &mut [f32], j: usize) -> Size
-        requires codes_room { i + length (codes_of (commands_of self.now)) ≤ length codes.old }
-        requires numbers_room { j + length (numbers_of (commands_of self.now)) ≤ length numbers.old }
-        ensures codes_value { result.codes ≡ i + length (codes_of (commands_of self.now)) }
-        ensures numbers_value { result.numbers ≡ j + length (numbers_of (commands_of self.now)) }
-        ensures codes_after { codes.new ≡ sets codes.old i (codes_of (commands_of self.now)) }
-        ensures numbers_after { numbers.new ≡ sets numbers.old j (numbers_of (commands_of self.now)) }
-    {
-        let at = Size {
-            codes: i,
-            numbers: j,
-        };
-        let mut sheet = Sheet { codes, numbers, at };
-        self.put(&mut sheet);
-        sheet.at
-    }
-
-    // Whether two buffers of these lengths are enough for any path of so many vertices, so that this one need not be counted.
+    // Whether so much room is enough for any path of so many vertices, so that this one need not be counted.
     // What the other kinds need is told without a look at their numbers.
-    #[tactic(auto, using(crate::proofs::Ways::amples, crate::proofs::Ways::path_ample))]
-    fn is_ample(&self, codes: usize, numbers: usize) -> bool
-        ensures { result ≡ true → in_buffers codes numbers (commands_of self.now) ≡ true }
+    #[tactic(auto, using(crate::proofs::Ways::path_fits, crate::proofs::Ways::path_ample))]
+    fn is_ample(&self, room: Size) -> bool
+        ensures { result ≡ true → in_buffers room.codes room.numbers (commands_of self.now) ≡ true }
     {
         match self.shape {
-            Shape::Path(_, count) => count + 2 <= codes && 6 * count + 2 <= numbers,
+            Shape::Path { count, .. } => count + 2 <= room.codes && 6 * count + 2 <= room.numbers,
             Shape::Rect(_) | Shape::Ellipse => false,
         }
     }
 
-    // Whether it fits two buffers of these lengths.
-    #[tactic(auto, using(crate::proofs::Ways::fittings))]
-    fn is_within(&self, codes: usize, numbers: usize) -> bool
-        ensures { result ≡ in_buffers codes numbers (commands_of self.now) }
+    // Whether there is room for it.
+    #[tactic(auto, using(crate::proofs::Ways::fits_by_need))]
+    fn is_within(&self, room: Size) -> bool
+        ensures { result ≡ in_buffers room.codes room.numbers (commands_of self.now) }
     {
-        self.is_ample(codes, numbers) || holds(self.need(), codes, numbers)
+        self.is_ample(room) || holds(room, self.need())
     }
 
     // Writes it from the start of two buffers, if it fits them.
+    #[tactic(auto, using(crate::proofs::Ways::codes_held, crate::proofs::Ways::numbers_held))]
     pub fn draw(&self, codes: &mut [u8], numbers: &mut [f32]) -> Outcome<Size>
         ensures { FilledBoth
             (fitted (in_buffers (length codes.old) (length numbers.old)) (Ok (commands_of self.now)))
             (number_of result) (codes_told result) (numbers_told result)
             codes.old codes.new numbers.old numbers.new }
     {
-        if self.is_within(codes.len(), numbers.len()) {
-            Ok(self.write(codes, 0, numbers, 0))
+        let room = Size {
+            codes: codes.len(),
+            numbers: numbers.len(),
+        };
+        if self.is_within(room) {
+            let at = Size {
+                codes: 0,
+                numbers: 0,
+            };
+            let mut sheet = Sheet { codes, numbers, at };
+            self.put(&mut sheet);
+            Ok(sheet.at)
         } else {
             Err(Refusal::BufferTooSmall)
         }
