@@ -1,7 +1,7 @@
 -- Laws of outcomes: whatever holds of every refusal and of the answer behind the checks holds of the whole, and no refusal has the number 0.
 -- Assumes nothing.
 use Rattle.std.specs.Prelude.{Ok, Err}
-use Prim.Native.Nat.{ℕ, ◌<◌}
+use Prim.Native.Nat.{◌<◌}
 use native.Mathlib.Omega.{arith}
 use mathlib.Core.Path.{◌≡◌, refl, sym, subst}
 use mathlib.Core.Bool.{Bool, true, false, cond}

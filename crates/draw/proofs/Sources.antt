@@ -70,13 +70,13 @@ made_fits row v s some few inside = kinds_hold Fits row v path rectangle ellipse
         let is : Path row.mark row.count ≡ s = cc in
         let test : (is_path row && eqb row.count 0) ≡ false = some in
         let one : row.count ≡ 0 → ⊥ = eqb-false row.count 0 (rw p at test) in
-        rw (← is) (record { some = omega arith; few = few; inside = omega arith })
+        rw (← is) (record { some = omega arith; few = omega arith; inside = omega arith })
 
     rectangle : is_path row ≡ false → entries_of row ≡ 5 → Fits (Ok (rect_of v))
-    rectangle p n e = let is : rect_of v ≡ s = cc in rw (← is) (omega arith)
+    rectangle p n e = let is : rect_of v ≡ s = cc in rw (← is) (record { some = omega arith; few = omega arith; inside = omega arith })
 
     ellipse : is_path row ≡ false → entries_of row ≡ 4 → Fits (Ok Ellipse)
-    ellipse p n e = let is : Ellipse ≡ s = cc in rw (← is) (omega arith)
+    ellipse p n e = let is : Ellipse ≡ s = cc in rw (← is) (record { some = omega arith; few = omega arith; inside = omega arith })
 
 pub drawn_source : (row : ItemRow) (items : List Float) (cs : List PathCommand) → draw_source row items ≡ Ok cs → DrawnSource row items cs
 unfolding draw_source shape_drawn

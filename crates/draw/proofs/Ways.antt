@@ -1,7 +1,6 @@
 -- What each way out of a function of this crate owes, as the code meets it: a premise for each test and for each call's result.
 -- Assumes nothing.
-use Rattle.command.specs.declared.Size.{Size}
-use Rattle.std.specs.Prelude.{Ok, Err}
+use Rattle.std.specs.Prelude.{Ok, Err, ◌⊎◌}
 use mathlib.Core.Path.{◌≡◌, sym, ap, ◌∙◌}
 use mathlib.Core.Bool.{Bool, true, false, not}
 use mathlib.Core.List.{List, [], ◌∷◌}
@@ -10,26 +9,22 @@ use native.Mathlib.Nat.{le_refl}
 use native.Mathlib.Omega.{arith}
 use lib.Ieee.{Float, nan}
 use lib.ListN.{length, get_or, take, drop, length-drop}
-use lib.Seq.{length-take-le, take_all, get_or-drop}
-use borrow.Author.Tests.{eqb-false, lt-ltb, le-ltb, ltb-false}
+use lib.Seq.{length-take-le, take_all, get_or-take}
+use borrow.Author.Tests.{eqb-false, lt-ltb, le-ltb}
 use Rattle.ieee.specs.Limit.{all_within}
-use Rattle.command.specs.declared.PathCommand.{PathCommand}
 use Rattle.command.specs.declared.Refusal.{Refusal}
 use Rattle.command.specs.declared.Refusal.TheVariants.{Empty, TooMany, OutOfRange, Unsupported, OutOfBounds}
-use Rattle.command.specs.Refusals.{refusal_number}
-use Rattle.command.specs.Outcomes.{Outcome, mapped, ◌gives◌, checked, number_of}
-use Rattle.command.specs.Buffers.{in_buffers, fitted, FilledBoth, codes_told, numbers_told}
-use Rattle.command.proofs.Buffers.{both_unfilled}
-use Rattle.command.proofs.Verdicts.{behind_refused, behind_passed, all_pass}
+use Rattle.command.specs.Outcomes.{Outcome, mapped, and_then, ◌gives◌, checked}
+use Rattle.command.proofs.Outcomes.{checks_passed}
+use Rattle.command.proofs.Verdicts.{behind_fault, behind_value, behind_refused, behind_passed, all_pass}
 use Rattle.rect.specs.Rect.{corner_radius}
-use Rattle.shape.specs.declared.Shape.{Shape}
 use Rattle.shape.specs.declared.Shape.TheVariants.{Path, Rect, Ellipse}
 use Rattle.shape.specs.Shape.{shape_commands, Fit}
 use Rattle.shape.specs.declared.Drawing.{Drawing}
 use Rattle.shape.specs.Drawings.{commands_of}
 use Rattle.item.specs.declared.Kind.TheVariants as Kind
 use Rattle.item.specs.declared.ItemRow.{ItemRow}
-use Rattle.item.specs.Rows.{item_row, entries_of}
+use Rattle.item.specs.Rows.{item_row, row_of, entries_of}
 use Rattle.path.specs.Path.{path_commands}
 use Rattle.item.proofs.Entries.{entries_path, entries_rect, entries_ellipse}
 use Rattle.draw.specs.Checks.{coordinate_limit}
@@ -43,27 +38,14 @@ module _ (closed : ℕ) (v : List Float) (count : ℕ) where
     pub path_ready : verdict ≡ Ok tt → Fit (Path closed count) v
     path_ready e =
         let P = path_passed closed v count (all_pass (path_checks closed v count) verdict verdict_is e) in
-        record { some = P.some; few = P.few; inside = P.inside }
+        record { some = omega (arith, P.some); few = omega (arith, P.few); inside = P.inside }
 
-    pub path_refused : (codes : List ℕ) (numbers : List Float) (r : Refusal) → verdict ≡ Err r
-        → FilledBoth (fitted (in_buffers (length codes) (length numbers)) (draw_path closed v count)) (refusal_number r) 0 0 codes codes numbers numbers
-    unfolding draw_path fitted
-    path_refused codes numbers r e =
-        rw (behind_refused (path_checks closed v count) verdict verdict_is r e (Ok (path_commands closed v count))) (both_unfilled r codes numbers)
-
-    pub path_drawn_whole : (codes codes' : List ℕ) (numbers numbers' : List Float) (r : Outcome Size) → verdict ≡ Ok tt
-        → FilledBoth (fitted (in_buffers (length codes) (length numbers)) (Ok (shape_commands (Path closed count) v)))
-        (number_of r) (codes_told r) (numbers_told r) codes codes' numbers numbers'
-        → FilledBoth (fitted (in_buffers (length codes) (length numbers)) (draw_path closed v count)) (number_of r) (codes_told r) (numbers_told r)
-        codes codes' numbers numbers'
-    unfolding draw_path shape_commands
-    path_drawn_whole codes codes' numbers numbers' r e f =
-        rw (behind_passed (path_checks closed v count) verdict verdict_is e (Ok (path_commands closed v count))) f
+    pub path_fault : (r : Refusal) → verdict ≡ Err r → draw_path closed v count ≡ Err r
+    unfolding draw_path
+    path_fault r e = behind_refused (path_checks closed v count) verdict verdict_is r e (Ok (path_commands closed v count))
 
 pub taken : (v : List Float) (n : ℕ) → n ≤ length v → n ≡ length (take n v)
 taken v n h = sym (length-take-le n v h)
-
-pub ruleset path_drawings = (path_ready, path_refused, path_drawn_whole)
 
 -- ---- shape_of
 tail : (l : List Float) (a : ℕ) → take (length l - a) (drop a l) ≡ drop a l
@@ -95,7 +77,7 @@ module _ (row : ItemRow) (items : List Float) (some : has_no_vertices row ≡ fa
     path_fits =
         let is : entries_of row ≡ 6 * row.count = entries_path row (rw h) in
         let one : row.count ≡ 0 → ⊥ = eqb-false row.count 0 (rw h at some) in
-        record { some = omega arith; few = few; inside = omega (arith, list_long) }
+        record { some = omega arith; few = omega arith; inside = omega (arith, list_long) }
 
   module _ (h : row.kind ≡ Kind.Rect) where
     five : entries_of row ≡ 5
@@ -110,18 +92,18 @@ module _ (row : ItemRow) (items : List Float) (some : has_no_vertices row ≡ fa
     unfolding shape_drawn item_shape
     shape_rect radius e = rw (h, e, list_is)
 
-    pub rect_fits : 4 ≤ length list
-    rect_fits = omega (arith, five, list_long)
+    pub rect_fits : (radius : Float) → Fit (Rect radius) list
+    rect_fits radius = record { some = omega arith; few = omega arith; inside = omega (arith, five, list_long) }
 
   module _ (h : row.kind ≡ Kind.Ellipse) where
     pub shape_ellipse : Ok (shape_commands Ellipse list) ≡ shape_drawn row from
     unfolding shape_drawn item_shape
     shape_ellipse = rw (h, list_is)
 
-    pub ellipse_fits : 4 ≤ length list
+    pub ellipse_fits : Fit Ellipse list
     ellipse_fits =
         let four : entries_of row ≡ 4 = entries_ellipse row (rw h) (rw h) (rw h) in
-        omega (arith, list_long)
+        record { some = omega arith; few = omega arith; inside = omega (arith, list_long) }
 
 pub ruleset kinds = (
   place_inside,
@@ -164,13 +146,10 @@ module _ (row : ItemRow) (items : List Float) where
           source_outside d =
               rw (← held_is, a, ← empty_is, b, le-ltb 1024 row.count c, lt-ltb (length items) (row.place + entries_of row) d)
 
-          pub source_short : length items < n → Err OutOfBounds ≡ verdict
+          pub source_short : (length items < n) ⊎ (length items - n < row.place) → Err OutOfBounds ≡ verdict
           source_short d = source_outside (omega arith)
 
           module _ (d : n ≤ length items) where
-            pub source_past : length items - n < row.place → Err OutOfBounds ≡ verdict
-            source_past e = source_outside (omega arith)
-
             module _ (e : row.place ≤ length items - n) where
               pub end_inside : row.place + n ≤ length items
               end_inside = omega arith
@@ -212,7 +191,6 @@ pub ruleset sources = (
   source_empty,
   source_many,
   source_short,
-  source_past,
   end_inside,
   source_beyond,
   source_passes,
@@ -223,10 +201,9 @@ module _ (row : ItemRow) (items : List Float) (u : Outcome (Unit {0})) (u_is : u
   abbrev rest : List Float
   rest = drop row.place items
 
-  pub source_refused : (codes : List ℕ) (numbers : List Float) (r : Refusal) → u ≡ Err r
-      → FilledBoth (fitted (in_buffers (length codes) (length numbers)) (draw_source row items)) (refusal_number r) 0 0 codes codes numbers numbers
-  unfolding draw_source fitted
-  source_refused codes numbers r e = rw (behind_refused (source_checks row items) u u_is r e (shape_drawn row rest)) (both_unfilled r codes numbers)
+  pub source_fault : (r : Refusal) → u ≡ Err r → draw_source row items ≡ Err r
+  unfolding draw_source
+  source_fault r e = behind_refused (source_checks row items) u u_is r e (shape_drawn row rest)
 
   module _ (e : u ≡ Ok tt) where
     passed : SourcePassed row items
@@ -246,43 +223,27 @@ module _ (row : ItemRow) (items : List Float) (u : Outcome (Unit {0})) (u_is : u
       unfolding draw_source
       source_made = k_is ∙ sym (behind_passed (source_checks row items) u u_is e (shape_drawn row rest))
 
-      pub shape_refused : (codes : List ℕ) (numbers : List Float) (r : Refusal) → k ≡ Err r
-          → FilledBoth (fitted (in_buffers (length codes) (length numbers)) (draw_source row items)) (refusal_number r) 0 0 codes codes numbers numbers
-      unfolding fitted
-      shape_refused codes numbers r is = rw (← source_made, is) (both_unfilled r codes numbers)
-
-      pub shape_filled : (d : Drawing) (codes codes' : List ℕ) (numbers numbers' : List Float) (r : Outcome Size) → k ≡ Ok d
-          → FilledBoth (fitted (in_buffers (length codes) (length numbers)) (Ok (commands_of d))) (number_of r) (codes_told r) (numbers_told r)
-          codes codes' numbers numbers'
-          → FilledBoth (fitted (in_buffers (length codes) (length numbers)) (draw_source row items)) (number_of r) (codes_told r) (numbers_told r)
-          codes codes' numbers numbers'
-      shape_filled d codes codes' numbers numbers' r is f = rw (← source_made, is) f
+      pub source_made_as : (o : Outcome Drawing) → k ≡ o → draw_source row items ≡ mapped commands_of o
+      source_made_as o is = sym source_made ∙ ap (mapped commands_of) is
 
 pub ruleset behind_checks = (some_vertices, few_vertices, numbers_inside)
 
-pub ruleset source_drawings = (source_refused, shape_refused, shape_filled, behind_checks)
+-- ---- check_row
+taken_at : (row : List ℕ) (k : ℕ) → k < 6 → get_or (take 6 row) k 0 ≡ get_or row k 0
+taken_at row k h = get_or-take 6 row k 0 h
+
+pub row_taken : (row entries : List ℕ) → entries ≡ take 6 row → row_of entries ≡ item_row row 0
+row_taken row entries is = rw is (grind (arith, taken_at row))
 
 -- ---- draw_item
-module _ (row : List ℕ) (items : List Float) (u : Outcome (Unit {0})) (u_is : u ≡ checked (item_checks row) (Ok tt)) where
-  pub item_refused : (codes : List ℕ) (numbers : List Float) (r : Refusal) → u ≡ Err r
-      → FilledBoth (fitted (in_buffers (length codes) (length numbers)) (draw_item row items)) (refusal_number r) 0 0 codes codes numbers numbers
-  unfolding draw_item fitted
-  item_refused codes numbers r e = rw (behind_refused (item_checks row) u u_is r e (draw_source (item_row row 0) items)) (both_unfilled r codes numbers)
+module _ (row : List ℕ) (items : List Float) (u : Outcome ItemRow) (u_is : u ≡ checked (item_checks row) (Ok (item_row row 0))) where
+  pub item_fault : (r : Refusal) → u ≡ Err r → draw_item row items ≡ Err r
+  unfolding draw_item
+  item_fault r e = behind_fault (item_checks row) (draw_source (item_row row 0) items) (item_row row 0) r (sym u_is ∙ e)
 
-  module _ (e : u ≡ Ok tt) where
-    pub row_whole : 6 ≤ length row
-    unfolding item_checks
-    row_whole = let pass = all_pass (item_checks row) u u_is e in omega (arith, ltb-false, pass)
-
-    pub item_drawn : (r : ItemRow) → r ≡ item_row row 0 → draw_source r items ≡ draw_item row items
-    unfolding draw_item
-    item_drawn r is = ap (λ (x : ItemRow). draw_source x items) is ∙ sym (behind_passed (item_checks row) u u_is e (draw_source (item_row row 0) items))
-
-    pub item_filled : (r : ItemRow) (codes codes' : List ℕ) (numbers numbers' : List Float) (n : Outcome Size) → r ≡ item_row row 0
-        → FilledBoth (fitted (in_buffers (length codes) (length numbers)) (draw_source r items)) (number_of n) (codes_told n) (numbers_told n)
-        codes codes' numbers numbers'
-        → FilledBoth (fitted (in_buffers (length codes) (length numbers)) (draw_item row items)) (number_of n) (codes_told n) (numbers_told n)
-        codes codes' numbers numbers'
-    item_filled r codes codes' numbers numbers' n is f = rw (← (item_drawn r is)) f
-
-pub ruleset item_drawings = (item_refused, row_whole, item_filled)
+  pub item_drawn : (r : ItemRow) → u ≡ Ok r → draw_item row items ≡ draw_source r items
+  unfolding draw_item
+  item_drawn r e =
+      let here : checked (item_checks row) (Ok (item_row row 0)) ≡ Ok r = sym u_is ∙ e in
+      behind_value (item_checks row) (draw_source (item_row row 0) items) (item_row row 0) r here
+      ∙ ap (λ (o : Outcome ItemRow). and_then o (λ (x : ItemRow). draw_source x items)) (checks_passed (item_checks row) (Ok (item_row row 0)) r here).1

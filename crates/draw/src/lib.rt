@@ -4,7 +4,7 @@
 ghost use Rattle.std.specs.Prelude.{◌≡◌, ◌+◌, ◌≤◌, length, drop, false};
 ghost use Rattle.command.specs.Outcomes.{checked, mapped, number_of};
 ghost use Rattle.command.specs.Buffers.{in_buffers, fitted, codes_told, numbers_told, FilledBoth};
-ghost use Rattle.item.specs.Rows.{entries_of};
+ghost use Rattle.item.specs.Rows.{item_row, entries_of};
 ghost use Rattle.shape.specs.Drawings.{commands_of};
 ghost use Rattle.draw.specs.Paths.{path_checks, draw_path};
 ghost use Rattle.draw.specs.Items.{is_drawable, is_held_back, has_no_vertices, source_checks, shape_drawn, draw_source, item_checks, draw_item};
@@ -13,7 +13,8 @@ use command::{Outcome, Refusal, Size};
 use item::{ItemRow, Kind};
 use shape::{Drawing, Shape};
 
-// The checks of a vertex list, all but that of the buffers.
+// The checks of a vertex list, all but that of the buffers: of the flag and the list as C lends them, since it is these checks that
+// tell a flag that is listed, and a list that holds so many vertices, from one that is refused.
 #[tactic(auto, unfolding(crate::specs::Paths::path_checks))]
 pub fn check_path(closed: u32, vertices: &[f32], count: usize) -> Outcome<()>
     ensures { result ≡ checked (path_checks closed vertices.now count) (Ok tt) }
@@ -60,7 +61,8 @@ fn is_held_back(row: ItemRow) -> bool
     !matches!(row.kind, Kind::Path | Kind::Rect | Kind::Ellipse)
 }
 
-// What a row whose numbers are there and within the limit says is to be drawn, or why it cannot be.
+// What a row whose numbers are there and within the limit says is to be drawn, or why it cannot be. A row and the list of all rows'
+// numbers stay two parameters, here and below: a call has many rows beside one list, and a pair made for each would say no more.
 #[tactic(auto, using(crate::proofs::Ways::kinds), unfolding(crate::specs::Items::shape_drawn, crate::specs::Items::item_shape))]
 pub fn shape_of<'a>(row: ItemRow, items: &'a [f32]) -> Outcome<Drawing<'a>>
     requires { (has_no_vertices row ≡ false) × (row.count ≤ 1024) × (row.place + entries_of row ≤ length items.now) }
@@ -68,7 +70,10 @@ pub fn shape_of<'a>(row: ItemRow, items: &'a [f32]) -> Outcome<Drawing<'a>>
 {
     let list = &items[row.place..];
     let shape = match row.kind {
-        Kind::Path => Shape::Path(row.mark, row.count),
+        Kind::Path => Shape::Path {
+            closed: row.mark,
+            count: row.count,
+        },
         Kind::Rect => Shape::Rect(rect::corner_radius(list[2], list[3], list[4])),
         Kind::Ellipse => Shape::Ellipse,
         _ => return Err(Refusal::Unsupported),
@@ -92,10 +97,7 @@ pub fn check_source(row: ItemRow, items: &[f32]) -> Outcome<()>
     }
     let place = row.place;
     let n = row.entries();
-    if items.len() < n {
-        return Err(Refusal::OutOfBounds);
-    }
-    if items.len() - n < place {
+    if items.len() < n || items.len() - n < place {
         return Err(Refusal::OutOfBounds);
     }
     if float::all_within(&items[place..place + n], 1048576.0) {
@@ -105,23 +107,22 @@ pub fn check_source(row: ItemRow, items: &[f32]) -> Outcome<()>
     }
 }
 
-// The checks of one item row by itself: that it is there, and that it may be asked to be drawn.
-#[tactic(auto, unfolding(crate::specs::Items::item_checks))]
-pub fn check_row(row: &[u32]) -> Outcome<()>
-    ensures { result ≡ checked (item_checks row.now) (Ok tt) }
+// One item row, if it is there and may be asked to be drawn.
+#[tactic(auto, using(crate::proofs::Ways::row_taken), unfolding(crate::specs::Items::item_checks))]
+pub fn check_row(row: &[u32]) -> Outcome<ItemRow>
+    ensures { result ≡ checked (item_checks row.now) (Ok (item_row row.now 0)) }
 {
-    if row.len() < 6 {
-        return Err(Refusal::OutOfBounds);
-    }
-    if is_drawable(item::item_row(row, 0)) {
-        Ok(())
+    let entries = row.first_chunk::<6>().ok_or(Refusal::OutOfBounds)?;
+    let row = ItemRow::from(*entries);
+    if is_drawable(row) {
+        Ok(row)
     } else {
         Err(Refusal::Unlisted)
     }
 }
 
-// Draws the first `count` vertices of a list, each of six numbers, into two buffers.
-#[tactic(auto, using(crate::proofs::Ways::path_drawings))]
+// Draws the first `count` vertices of a list, each of six numbers, into two buffers: the flag, the list and the buffers as C lends them.
+#[tactic(auto, using(crate::proofs::Ways::path_ready, command::proofs::Verdicts::behind_value), unfolding(crate::specs::Paths::draw_path, shape::specs::Shape::shape_commands))]
 pub fn draw_path(
     closed: u32,
     vertices: &[f32],
@@ -136,14 +137,14 @@ pub fn draw_path(
 {
     check_path(closed, vertices, count)?;
     let drawing = Drawing {
-        shape: Shape::Path(closed, count),
+        shape: Shape::Path { closed, count },
         list: vertices,
     };
     drawing.draw(codes, numbers)
 }
 
 // Draws a row with listed entries into two buffers.
-#[tactic(auto, using(crate::proofs::Ways::source_drawings))]
+#[tactic(auto, using(crate::proofs::Ways::behind_checks, crate::proofs::Ways::source_made))]
 fn draw_source(row: ItemRow, items: &[f32], codes: &mut [u8], numbers: &mut [f32]) -> Outcome<Size>
     ensures { FilledBoth
         (fitted (in_buffers (length codes.old) (length numbers.old)) (draw_source row items.now))
@@ -156,13 +157,13 @@ fn draw_source(row: ItemRow, items: &[f32], codes: &mut [u8], numbers: &mut [f32
 }
 
 // Draws one item row into two buffers.
-#[tactic(auto, using(crate::proofs::Ways::item_drawings))]
+#[tactic(auto, using(crate::proofs::Ways::item_drawn))]
 pub fn draw_item(row: &[u32], items: &[f32], codes: &mut [u8], numbers: &mut [f32]) -> Outcome<Size>
     ensures { FilledBoth
         (fitted (in_buffers (length codes.old) (length numbers.old)) (draw_item row.now items.now))
         (number_of result) (codes_told result) (numbers_told result)
         codes.old codes.new numbers.old numbers.new }
 {
-    check_row(row)?;
-    draw_source(item::item_row(row, 0), items, codes, numbers)
+    let row = check_row(row)?;
+    draw_source(row, items, codes, numbers)
 }

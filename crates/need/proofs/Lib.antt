@@ -1,5 +1,4 @@
 -- What the proofs of `need` cite, what is promised of needs, and closed cases.
-pub mod Ways
 pub mod Enough
 pub mod Small
 mod Cases

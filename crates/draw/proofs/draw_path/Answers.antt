@@ -1,12 +1,8 @@
 -- `draw::draw_path` meets its contract. Assumes nothing.
-use borrow.Author.Rules.{rules}
-use Rattle.draw.proofs.Ways.{path_refused, path_drawn_whole}
+use Rattle.command.proofs.Buffers.{both_handed}
+use Rattle.draw.proofs.Ways.{path_fault}
 use Rattle.draw.proofs.draw_path.Goals as goal
 
 pub returns-in_err-check_path : goal.returns-in_err-check_path
 returns-in_err-check_path c =
-    let f = path_refused _ _ _ _ c.check_path.ensures c.args.codes.now c.args.numbers.now _ c.in_err-check_path.was in
-    search rules
-
-pub returns : goal.returns
-returns c = path_drawn_whole _ _ _ _ c.check_path.ensures _ _ _ _ _ c.in_ok-check_path.was c.draw.ensures
+    both_handed _ _ (path_fault _ _ _ _ c.check_path.ensures _ c.in_err-check_path.was) _ _ c.from_residual.ensures.1 _ _
