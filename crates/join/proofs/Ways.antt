@@ -4,26 +4,28 @@ use Rattle.command.specs.declared.Size.{Size}
 use Rattle.std.specs.Prelude.{Ok, Err}
 use mathlib.Core.Path.{◌≡◌, refl, sym, ap, ◌∙◌}
 use mathlib.Core.Bool.{Bool, true, false, cond}
-use mathlib.Core.List.{List, [], ◌∷◌, ◌++◌, map}
-use Prim.Native.Nat.{ℕ, zero, suc, ◌+◌, ◌-◌, ◌*◌, ◌≤◌, ◌<◌, zero-le}
+use mathlib.Core.List.{List, [], ◌∷◌, ◌++◌, map, append_assoc, append-nil}
+use Prim.Native.Nat.{ℕ, zero, suc, ◌+◌, ◌*◌, ◌≤◌, ◌<◌, zero-le}
 use native.Mathlib.Nat.{zero-add, add-zero}
 use native.Mathlib.Omega.{arith}
 use mir.Val.{Fits}
 use mir.Syntax.{w64}
 use lib.Ieee.{Float}
-use lib.ListN.{length, get_or, take, drop, length-append}
-use lib.Seq.{sets, length-sets}
+use lib.ListN.{length, get_or, drop, length-append}
+use lib.Seq.{sets}
 use borrow.Author.Tests.{lt-leb, le-leb}
 use Rattle.command.specs.declared.PathCommand.{PathCommand}
 use Rattle.command.specs.declared.Refusal.{Refusal}
 use Rattle.command.specs.declared.Refusal.TheVariants.{BufferTooSmall}
 use Rattle.command.specs.Commands.{codes_of, numbers_of}
-use Rattle.command.specs.Refusals.{refusal_number}
-use Rattle.command.specs.Outcomes.{Outcome, list_of, number_of, mapped}
-use Rattle.command.specs.Buffers.{in_buffers, fitted, FilledBoth, size_of, need_of, codes_told, numbers_told, pair_of}
+use Rattle.command.specs.Outcomes.{Outcome, list_of, mapped}
+use Rattle.command.specs.Buffers.{in_buffers, fitted, FilledBoth, size_of, need_of, pair_of}
 use Rattle.command.proofs.Outcomes.{refused_accepted}
 use Rattle.command.proofs.Lists.{codes_length, codes_append, numbers_append}
-use Rattle.command.proofs.Buffers.{sets_append, fitted_accepted, fitted_refused, filled, both_unfilled}
+use Rattle.command.proofs.Buffers.{fitted_accepted, fitted_refused, filled, both_unfilled}
+use Rattle.sheet.specs.declared.Sheet.{Sheet}
+use Rattle.sheet.specs.Sheets.{HasRoom, Wrote}
+use Rattle.sheet.proofs.Written.{room_first, room_next, wrote_none, wrote_both}
 use Rattle.shape.specs.declared.Drawing.{Drawing}
 use Rattle.shape.specs.Drawings.{commands_of}
 use Rattle.item.specs.declared.ItemRow.{ItemRow}
@@ -221,64 +223,19 @@ module _ (row : ItemRow) (items : List Float) (t : Bool) (is : t ≡ is_source_r
       row_drawn_as : mapped commands_of k ≡ Ok (list_of (draw_row row items))
       row_drawn_as = k_is ∙ row_met.drawn
 
-      pub row_not_refused : (r : Refusal) → k ≡ Err r → {A : Type 0} → A
-      row_not_refused r e = refused_accepted r (list_of (draw_row row items)) (ap (mapped commands_of) (sym e) ∙ row_drawn_as)
+      -- it is made, since the row's checks have passed
+      pub row_made : (r : Refusal) → k ≡ Err r → (p : Sheet) → Wrote (list_of (draw_row row items)) p p
+      row_made r e p = refused_accepted r (list_of (draw_row row items)) (ap (mapped commands_of) (sym e) ∙ row_drawn_as)
 
       module _ (d : Drawing) (e : k ≡ Ok d) where
-        row_commands : commands_of d ≡ list_of (draw_row row items)
+        pub row_commands : commands_of d ≡ list_of (draw_row row items)
         row_commands = ap list_of (ap (mapped commands_of) (sym e) ∙ row_drawn_as)
 
-        pub row_codes_room : (i n : ℕ) → i + length (codes_in (draw_row row items)) ≤ n → i + length (codes_of (commands_of d)) ≤ n
-        row_codes_room i n room = rw row_commands room
-
-        pub row_numbers_room : (j n : ℕ) → j + length (numbers_in (draw_row row items)) ≤ n → j + length (numbers_of (commands_of d)) ≤ n
-        row_numbers_room j n room = rw row_commands room
-
-        pub row_codes_after : (i r : ℕ) → r ≡ i + length (codes_of (commands_of d)) → r ≡ i + length (codes_in (draw_row row items))
-        row_codes_after i r e = e ∙ ap (λ (cs : List PathCommand). i + length (codes_of cs)) row_commands
-
-        pub row_numbers_after : (j r : ℕ) → r ≡ j + length (numbers_of (commands_of d)) → r ≡ j + length (numbers_in (draw_row row items))
-        row_numbers_after j r e = e ∙ ap (λ (cs : List PathCommand). j + length (numbers_of cs)) row_commands
-
-        pub row_codes_written : (codes codes' : List ℕ) (i : ℕ) → codes' ≡ sets codes i (codes_of (commands_of d)) → codes' ≡ sets codes i (codes_in (draw_row row items))
-        row_codes_written codes codes' i e = e ∙ ap (λ (cs : List PathCommand). sets codes i (codes_of cs)) row_commands
-
-        pub row_numbers_written : (numbers numbers' : List Float) (j : ℕ) → numbers' ≡ sets numbers j (numbers_of (commands_of d))
-            → numbers' ≡ sets numbers j (numbers_in (draw_row row items))
-        row_numbers_written numbers numbers' j e = e ∙ ap (λ (cs : List PathCommand). sets numbers j (numbers_of cs)) row_commands
-
   module _ (h : t ≡ false) where
-    no_commands : list_of (draw_row row items) ≡ []
+    pub no_commands : list_of (draw_row row items) ≡ []
     no_commands = rw (row_other row items t is h)
 
-    pub no_codes_after : (i : ℕ) → i ≡ i + length (codes_in (draw_row row items))
-    no_codes_after i = rw no_commands (sym (add-zero i))
-
-    pub no_numbers_after : (j : ℕ) → j ≡ j + length (numbers_in (draw_row row items))
-    no_numbers_after j = rw no_commands (sym (add-zero j))
-
-    pub no_codes_written : (codes : List ℕ) (i : ℕ) → codes ≡ sets codes i (codes_in (draw_row row items))
-    no_codes_written codes i = rw no_commands
-
-    pub no_numbers_written : (numbers : List Float) (j : ℕ) → numbers ≡ sets numbers j (numbers_in (draw_row row items))
-    no_numbers_written numbers j = rw no_commands
-
-pub ruleset row_writes = (
-  row_some,
-  row_count,
-  row_entries,
-  row_not_refused,
-  row_codes_room,
-  row_numbers_room,
-  row_codes_after,
-  row_numbers_after,
-  row_codes_written,
-  row_numbers_written,
-  no_codes_after,
-  no_numbers_after,
-  no_codes_written,
-  no_numbers_written,
-)
+pub ruleset row_writes = (row_some, row_count, row_entries, row_made, row_commands, no_commands, wrote_none)
 
 -- ---- write_rows
 
@@ -294,39 +251,28 @@ parts (Err r) p e = let z : ◌≡◌ {A = ℕ} 0 1 = cc in absurd (omega arith)
 parts (Ok cs) (Err r) e = let z : ◌≡◌ {A = ℕ} 0 1 = cc in absurd (omega arith)
 parts (Ok cs) (Ok ds) e = record { first = refl; second = refl; both = refl }
 
--- The rows from i on, written on the buffers as they are, give what all rows give on the buffers as they were.
-pub record Joining (rows : List (List ℕ)) (items : List Float) (codes₀ : List ℕ) (numbers₀ : List Float) (codes : List ℕ) (numbers : List Float) (at to i : ℕ) : Type 0 where
-  pub inside : i ≤ length rows
+-- The commands of the rows before i are written, and those of the rows from i on are to come.
+pub record Joining (rows : List (List ℕ)) (items : List Float) (p q : Sheet) (i : ℕ) : Type 0 where
+  pub before : List PathCommand
   pub drawn_rest : is_accepted (draw_rows (map row_of (drop i rows)) items) ≡ true
-  pub codes_last : sets codes at (codes_in (draw_rows (map row_of (drop i rows)) items)) ≡ sets codes₀ 0 (codes_in (draw_rows (map row_of rows) items))
-  pub numbers_last : sets numbers to (numbers_in (draw_rows (map row_of (drop i rows)) items)) ≡ sets numbers₀ 0 (numbers_in (draw_rows (map row_of rows) items))
-  pub codes_room : at + length (codes_in (draw_rows (map row_of (drop i rows)) items)) ≤ length codes
-  pub numbers_room : to + length (numbers_in (draw_rows (map row_of (drop i rows)) items)) ≤ length numbers
-  pub codes_same : length codes ≡ length codes₀
-  pub numbers_same : length numbers ≡ length numbers₀
+  pub whole : list_of (draw_rows (map row_of rows) items) ≡ before ++ list_of (draw_rows (map row_of (drop i rows)) items)
+  pub written : Wrote before p q
 
-module _ (rows : List (List ℕ)) (items : List Float) (codes₀ : List ℕ) (numbers₀ : List Float) where
-  pub joining_start : is_accepted (draw_rows (map row_of rows) items) ≡ true → length (codes_in (draw_rows (map row_of rows) items)) ≤ length codes₀
-      → length (numbers_in (draw_rows (map row_of rows) items)) ≤ length numbers₀ → Joining rows items codes₀ numbers₀ codes₀ numbers₀ 0 0 0
-  joining_start e h g = record {
-    inside = zero-le;
-    drawn_rest = e;
-    codes_last = refl;
-    numbers_last = refl;
-    codes_room = rw zero-add h;
-    numbers_room = rw zero-add g;
-    codes_same = refl;
-    numbers_same = refl;
-  }
+module _ (rows : List (List ℕ)) (items : List Float) (p : Sheet) where
+  abbrev all : List PathCommand
+  all = list_of (draw_rows (map row_of rows) items)
 
-  module _ (codes : List ℕ) (numbers : List Float) (at to i : ℕ) (w : Joining rows items codes₀ numbers₀ codes numbers at to i) where
-    pub codes_joined : length rows ≤ i → codes ≡ sets codes₀ 0 (codes_in (draw_rows (map row_of rows) items))
-    codes_joined h = rw (rows_over rows items i h) at w.codes_last
+  pub joining_start : is_accepted (draw_rows (map row_of rows) items) ≡ true → Joining rows items p p 0
+  joining_start e = record { before = []; drawn_rest = e; whole = refl; written = wrote_none p }
 
-    pub numbers_joined : length rows ≤ i → numbers ≡ sets numbers₀ 0 (numbers_in (draw_rows (map row_of rows) items))
-    numbers_joined h = rw (rows_over rows items i h) at w.numbers_last
+  module _ (q : Sheet) (i : ℕ) (w : Joining rows items p q i) where
+    pub all_joined : length rows ≤ i → Wrote all p q
+    all_joined h = let is : all ≡ w.before = rw (rows_over rows items i h, append-nil) at w.whole in rw is w.written
 
     module _ (h : i < length rows) (row : ItemRow) (row_is : row ≡ row_of (get_or rows i [])) where
+      abbrev drawn : List PathCommand
+      drawn = list_of (draw_row row items)
+
       abbrev rest : Outcome (List PathCommand)
       rest = draw_rows (map row_of (drop (i + 1) rows)) items
 
@@ -336,61 +282,33 @@ module _ (rows : List (List ℕ)) (items : List Float) (codes₀ : List ℕ) (nu
       two : Parts (draw_row row items) rest
       two = parts (draw_row row items) rest (rw rest_is at w.drawn_rest)
 
-      codes_two : codes_in (draw_rows (map row_of (drop i rows)) items) ≡ codes_in (draw_row row items) ++ codes_in rest
-      codes_two = ap codes_in rest_is ∙ ap codes_of two.both ∙ codes_append (list_of (draw_row row items)) (list_of rest)
-
-      numbers_two : numbers_in (draw_rows (map row_of (drop i rows)) items) ≡ numbers_in (draw_row row items) ++ numbers_in rest
-      numbers_two = ap numbers_in rest_is ∙ ap numbers_of two.both ∙ numbers_append (list_of (draw_row row items)) (list_of rest)
-
-      codes_lengths : length (codes_in (draw_rows (map row_of (drop i rows)) items)) ≡ length (codes_in (draw_row row items)) + length (codes_in rest)
-      codes_lengths = ap length codes_two ∙ length-append (codes_in (draw_row row items)) (codes_in rest)
-
-      numbers_lengths : length (numbers_in (draw_rows (map row_of (drop i rows)) items)) ≡ length (numbers_in (draw_row row items)) + length (numbers_in rest)
-      numbers_lengths = ap length numbers_two ∙ length-append (numbers_in (draw_row row items)) (numbers_in rest)
+      whole_is : all ≡ w.before ++ (drawn ++ list_of rest)
+      whole_is = w.whole ∙ ap (λ (o : Outcome (List PathCommand)). w.before ++ list_of o) rest_is ∙ ap (λ (cs : List PathCommand). w.before ++ cs) two.both
 
       pub row_drawn : is_accepted (draw_row row items) ≡ true
       row_drawn = two.first
 
-      pub codes_there : at + length (codes_in (draw_row row items)) ≤ length codes
-      codes_there = omega (arith, w.codes_room, codes_lengths)
+      pub row_fits : HasRoom all p → HasRoom drawn q
+      row_fits room = room_first (drawn ++ list_of rest) drawn (list_of rest) refl q q (room_next all w.before (drawn ++ list_of rest) whole_is p q room w.written)
 
-      pub numbers_there : to + length (numbers_in (draw_row row items)) ≤ length numbers
-      numbers_there = omega (arith, w.numbers_room, numbers_lengths)
+      pub joining_more : (r : Sheet) → Wrote drawn q r → Joining rows items p r (i + 1)
+      joining_more r v = record {
+        before = w.before ++ drawn;
+        drawn_rest = two.second;
+        whole = whole_is ∙ sym (append_assoc w.before drawn (list_of rest));
+        written = wrote_both (w.before ++ drawn) w.before drawn refl p q r w.written v;
+      }
 
-      pub joining_more : (codes' : List ℕ) (numbers' : List Float) (at' to' : ℕ)
-          → at' ≡ at + length (codes_in (draw_row row items)) → to' ≡ to + length (numbers_in (draw_row row items))
-          → codes' ≡ sets codes at (codes_in (draw_row row items)) → numbers' ≡ sets numbers to (numbers_in (draw_row row items))
-          → Joining rows items codes₀ numbers₀ codes' numbers' at' to' (i + 1)
-      joining_more codes' numbers' at' to' p q c n =
-          let x : length codes' ≡ length codes = ap length c ∙ length-sets codes at (codes_in (draw_row row items)) in
-          let y : length numbers' ≡ length numbers = ap length n ∙ length-sets numbers to (numbers_in (draw_row row items)) in
-          record {
-            inside = omega arith;
-            drawn_rest = two.second;
-            codes_last =
-                rw (c, p) (sym (sets_append (codes_in (draw_row row items)) (codes_in rest) codes at) ∙ ap (sets codes at) (sym codes_two) ∙ w.codes_last);
-            numbers_last =
-                rw (n, q) (sym (sets_append (numbers_in (draw_row row items)) (numbers_in rest) numbers to) ∙ ap (sets numbers to) (sym numbers_two) ∙ w.numbers_last);
-            codes_room = omega (arith, x, p, w.codes_room, codes_lengths);
-            numbers_room = omega (arith, y, q, w.numbers_room, numbers_lengths);
-            codes_same = x ∙ w.codes_same;
-            numbers_same = y ∙ w.numbers_same;
-          }
-
-pub ruleset rows_writes = (joining_start, codes_joined, numbers_joined, row_drawn, codes_there, numbers_there, joining_more)
+pub ruleset rows_writes = (joining_start, all_joined, row_drawn, row_fits, joining_more)
 
 -- ---- join_rows
-module _ (o : Outcome (List PathCommand)) (codes : List ℕ) (numbers : List Float) (need : Outcome Size) (is : mapped pair_of need ≡ need_of o) where
+pub need_fault : (o : Outcome (List PathCommand)) (need : Outcome Size) → mapped pair_of need ≡ need_of o → (r : Refusal) → need ≡ Err r → o ≡ Err r
+need_fault (Err q) need is r e = let told : ◌≡◌ {A = Outcome (ℕ × ℕ)} (Err r) (Err q) = ap (mapped pair_of) (sym e) ∙ is in let same : q ≡ r = cc in rw same
+need_fault (Ok cs) need is r e = refused_accepted r (size_of cs) (ap (mapped pair_of) (sym e) ∙ is)
+
+module _ (o : Outcome (List PathCommand)) (need : Outcome Size) (is : mapped pair_of need ≡ need_of o) (codes : List ℕ) (numbers : List Float) where
   abbrev fits : List PathCommand → Bool
   fits = in_buffers (length codes) (length numbers)
-
-  pub need_unfilled : (r : Refusal) → need ≡ Err r → FilledBoth (fitted fits o) (refusal_number r) 0 0 codes codes numbers numbers
-  unfolding fitted
-  need_unfilled r e = go o (ap (mapped pair_of) (sym e) ∙ is)
-    where
-      go : (p : Outcome (List PathCommand)) → Err r ≡ need_of p → FilledBoth (fitted fits p) (refusal_number r) 0 0 codes codes numbers numbers
-      go (Err q) f = let x : r ≡ q = cc in rw x (both_unfilled q codes numbers)
-      go (Ok cs) f = refused_accepted r (size_of cs) f
 
   module _ (size : Size) (e : need ≡ Ok size) where
     told_here : (o ≡ Ok (list_of o)) × (size.codes ≡ length (codes_in o)) × (size.numbers ≡ length (numbers_in o))
@@ -430,7 +348,7 @@ module _ (o : Outcome (List PathCommand)) (codes : List ℕ) (numbers : List Flo
               numbers_filled = filled (numbers_in o) numbers numbers' size.numbers need_numbers_room told_here.2 q;
             }))
 
-pub ruleset joins = (need_unfilled, need_drawn, need_codes_short, need_codes_room, need_numbers_short, need_numbers_room, need_written)
+pub ruleset joins = (need_drawn, need_codes_room, need_numbers_room)
 
 -- ---- draw_merge and merge_need
 
@@ -460,14 +378,9 @@ module _ (rows : List ℕ) (n : ℕ) (items : List Float) (k : Outcome (Bor (Lis
   abbrev merged : Outcome (List PathCommand)
   merged = draw_merge rows n items
 
-  pub merge_refused : (codes : List ℕ) (numbers : List Float) (r : Refusal) → k ≡ Err r
-      → FilledBoth (fitted (in_buffers (length codes) (length numbers)) merged) (refusal_number r) 0 0 codes codes numbers numbers
-  unfolding draw_merge said fitted
-  merge_refused codes numbers r e = rw (← is, e) (both_unfilled r codes numbers)
-
-  pub merge_need_refused : (r : Refusal) → k ≡ Err r → Err r ≡ need_of merged
+  pub merge_fault : (r : Refusal) → k ≡ Err r → merged ≡ Err r
   unfolding draw_merge said
-  merge_need_refused r e = rw (← is, e)
+  merge_fault r e = rw (← is, e)
 
   module _ (before : Bor (List (List ℕ))) (e : k ≡ Ok before) (s : Settled rows (handed k)) where
     abbrev first : List ItemRow
@@ -479,7 +392,7 @@ module _ (rows : List ℕ) (n : ℕ) (items : List Float) (k : Outcome (Bor (Lis
     pub merge_few : length before.now ≤ 256
     merge_few = rw (← length-map before.now row_of) first_settled.0
 
-    joined_is : draw_rows first items ≡ merged
+    pub joined_is : draw_rows first items ≡ merged
     unfolding draw_merge draw_joined said
     joined_is =
         let f : first ≡ rows_from rows 0 (length first) = first_settled.2 in
@@ -488,14 +401,4 @@ module _ (rows : List ℕ) (n : ℕ) (items : List Float) (k : Outcome (Bor (Lis
         ∙ sym (sources_drawn rows items 0 (length first))
         ∙ ap (λ (rs : List ItemRow). draw_sources (map (item_row rows) (sources_from 0 rs)) items) (sym f))
 
-    pub merge_joined : (codes codes' : List ℕ) (numbers numbers' : List Float) (r : Outcome Size)
-        → FilledBoth (fitted (in_buffers (length codes) (length numbers)) (draw_rows first items)) (number_of r) (codes_told r) (numbers_told r) codes codes' numbers numbers'
-        → FilledBoth (fitted (in_buffers (length codes) (length numbers)) merged) (number_of r) (codes_told r) (numbers_told r) codes codes' numbers numbers'
-    merge_joined codes codes' numbers numbers' r f = rw (← joined_is) f
-
-    pub merge_need_joined : (r : Outcome Size) → mapped pair_of r ≡ need_of (draw_rows first items) → mapped pair_of r ≡ need_of merged
-    merge_need_joined r f = f ∙ ap need_of joined_is
-
-pub ruleset merges = (merge_refused, merge_few, merge_joined)
-
-pub ruleset merge_needs = (merge_need_refused, merge_few, merge_need_joined)
+pub ruleset merges = (merge_fault, merge_few, joined_is)

@@ -1,17 +1,17 @@
 // The sources of a merge drawn one after another: judged and counted whole, then written.
 #![tactic(auto)]
 
-ghost use Rattle.std.specs.Prelude.{◌≡◌, true, ◌+◌, ◌≤◌, length, map};
-ghost use Rattle.std.proofs.lemmas.List.Edits.{sets};
-ghost use Rattle.command.specs.Commands.{codes_of, numbers_of};
+ghost use Rattle.std.specs.Prelude.{◌≡◌, true, ◌≤◌, length, map};
 ghost use Rattle.command.specs.Outcomes.{list_of, mapped, number_of};
 ghost use Rattle.command.specs.Buffers.{in_buffers, fitted, pair_of, codes_told, numbers_told, FilledBoth, need_of};
+ghost use Rattle.sheet.specs.Sheets.{HasRoom, Wrote};
 ghost use Rattle.item.specs.Rows.{row_of};
 ghost use Rattle.join.specs.Merge.{draw_merge};
 ghost use Rattle.join.specs.Sources.{is_accepted, draw_row, draw_rows};
 
 use command::{Outcome, Refusal, Size};
 use item::ItemRow;
+use sheet::Sheet;
 
 // What a row needs: nothing where it is no source.
 #[tactic(auto, using(crate::proofs::Ways::row_needs))]
@@ -44,55 +44,29 @@ fn rows_need(rows: &[[u32; 6]], items: &[f32]) -> Outcome<Size>
     Ok(Size { codes, numbers })
 }
 
-// Writes what a row draws at places of buffers that it fits, and gives the places after it.
+// Writes what a row draws, which is known to be drawn, to a sheet that has room for it.
 #[tactic(auto, using(crate::proofs::Ways::row_writes))]
-fn write_row(
-    row: ItemRow,
-    items: &[f32],
-    codes: &mut [u8],
-    i: usize,
-    numbers: &mut [f32],
-    j: usize,
-) -> Size
+fn write_row(row: ItemRow, items: &[f32], sheet: &mut Sheet)
     requires value { is_accepted (draw_row row items.now) ≡ true }
-    requires in_bounds { i + length (codes_of (list_of (draw_row row items.now))) ≤ length codes.old }
-    requires in_bounds_2 { j + length (numbers_of (list_of (draw_row row items.now))) ≤ length numbers.old }
-    ensures codes_value { result.codes ≡ i + length (codes_of (list_of (draw_row row items.now))) }
-    ensures numbers_value { result.numbers ≡ j + length (numbers_of (list_of (draw_row row items.now))) }
-    ensures codes_after { codes.new ≡ sets codes.old i (codes_of (list_of (draw_row row items.now))) }
-    ensures numbers_after { numbers.new ≡ sets numbers.old j (numbers_of (list_of (draw_row row items.now))) }
+    requires room { HasRoom (list_of (draw_row row items.now)) sheet.old }
+    ensures { Wrote (list_of (draw_row row items.now)) sheet.old sheet.new }
 {
     if merge::is_source(row) {
-        match draw::shape_of(row, items) {
-            Err(_) => Size {
-                codes: i,
-                numbers: j,
-            },
-            Ok(drawing) => drawing.write(codes, i, numbers, j),
-        }
-    } else {
-        Size {
-            codes: i,
-            numbers: j,
+        if let Ok(drawing) = draw::shape_of(row, items) {
+            drawing.put(sheet);
         }
     }
 }
 
-// Writes what rows draw from the start of buffers that it fits.
+// Writes what rows draw, one after another.
 #[tactic(auto, using(crate::proofs::Ways::rows_writes))]
-fn write_rows(rows: &[[u32; 6]], items: &[f32], codes: &mut [u8], numbers: &mut [f32])
+fn write_rows(rows: &[[u32; 6]], items: &[f32], sheet: &mut Sheet)
     requires value { is_accepted (draw_rows (map row_of rows.now) items.now) ≡ true }
-    requires in_bounds { length (codes_of (list_of (draw_rows (map row_of rows.now) items.now))) ≤ length codes.old }
-    requires in_bounds_2 { length (numbers_of (list_of (draw_rows (map row_of rows.now) items.now))) ≤ length numbers.old }
-    ensures codes_after { codes.new ≡ sets codes.old 0 (codes_of (list_of (draw_rows (map row_of rows.now) items.now))) }
-    ensures numbers_after { numbers.new ≡ sets numbers.old 0 (numbers_of (list_of (draw_rows (map row_of rows.now) items.now))) }
+    requires room { HasRoom (list_of (draw_rows (map row_of rows.now) items.now)) sheet.old }
+    ensures { Wrote (list_of (draw_rows (map row_of rows.now) items.now)) sheet.old sheet.new }
 {
-    let mut at = 0;
-    let mut to = 0;
     for entries in rows {
-        let next = write_row(ItemRow::from(*entries), items, codes, at, numbers, to);
-        at = next.codes;
-        to = next.numbers;
+        write_row(ItemRow::from(*entries), items, sheet);
     }
 }
 
@@ -114,7 +88,12 @@ fn join_rows(
     if need.codes > codes.len() || need.numbers > numbers.len() {
         return Err(Refusal::BufferTooSmall);
     }
-    write_rows(rows, items, codes, numbers);
+    let at = Size {
+        codes: 0,
+        numbers: 0,
+    };
+    let mut sheet = Sheet { codes, numbers, at };
+    write_rows(rows, items, &mut sheet);
     Ok(need)
 }
 
@@ -137,7 +116,7 @@ pub fn draw_merge(
 }
 
 // What the merge of the first n rows needs, or why it is refused.
-#[tactic(auto, using(crate::proofs::Ways::merge_needs))]
+#[tactic(auto, using(crate::proofs::Ways::merges))]
 pub fn merge_need(rows: &[u32], n: usize, items: &[f32]) -> Outcome<Size>
     ensures { mapped pair_of result ≡ need_of (draw_merge rows.now n items.now) }
 {
