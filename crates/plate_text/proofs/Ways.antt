@@ -33,17 +33,9 @@ use Rattle.length.specs.Lists.{measure_list}
 use Rattle.plate_read.specs.declared.Reading.{Reading}
 use Rattle.plate_read.specs.Text.{Content, faulty, given, read_text, reading_of, numbers_given}
 use Rattle.plate_read.proofs.Texts.{reading_counts}
-use Rattle.plate_print.specs.Lines.{refusal_text, list_text, line}
+use Rattle.plate_print.specs.Lines.{refusal_text, line}
 use Rattle.plate_print.proofs.Lines.{list_answer, numbers_there}
 use Rattle.plate_text.specs.Plate.{drawn_text, content_text, plate_text, measured_text}
-
--- a text printed is the text promised
-module _ (t t' : List ℕ) (e : t ≡ t') where
-  counted : (n : ℕ) → n ≡ length t → n ≡ length t'
-  counted n n_is = n_is ∙ ap length e
-
-  put : (out out' : List ℕ) → out' ≡ onto t out → out' ≡ onto t' out
-  put out out' out_is = out_is ∙ ap (λ (l : List ℕ). onto l out) e
 
 -- ---- print_measured
 -- what is measured was accepted
@@ -51,44 +43,14 @@ measured_list : (o : Outcome (List PathCommand)) (x : Float) → mapped path_len
 measured_list (Err r) x e = refused_accepted r x e
 measured_list (Ok cs) x e = refl
 
-module _ (codes : List ℕ) (numbers : List Float) (m : Outcome Float) (m_is : m ≡ measure_list codes numbers) (out out' : List ℕ) (n : ℕ) where
-  abbrev text : List ℕ
-  text = measured_text codes numbers (measure_list codes numbers)
-
-  module _ (r : Refusal) (e : m ≡ Err r) where
-    refusal_measured : refusal_text r ≡ text
-    unfolding measured_text
-    refusal_measured = ap (measured_text codes numbers) (sym (e) ∙ m_is)
-
-    pub measured_refusal_count : n ≡ length (refusal_text r) → n ≡ length text
-    measured_refusal_count = counted (refusal_text r) text refusal_measured n
-
-    pub measured_refusal_put : out' ≡ onto (refusal_text r) out → out' ≡ onto text out
-    measured_refusal_put = put (refusal_text r) text refusal_measured out out'
-
-  module _ (x : Float) (e : m ≡ Ok x) where
-    told : Ok x ≡ measure_list codes numbers
-    told = sym (e) ∙ m_is
-
-    pub measured_there : place_of (length codes) codes ≤ length numbers
-    unfolding measure_list
-    measured_there =
-        let cs = list_of (judge_list codes numbers) in
-        let w = read_written codes numbers cs (judged_read codes numbers cs (measured_list (judge_list codes numbers) x (sym told))).1 in
-        let there : place_of (length codes) codes ≡ length numbers = sym (λ i. place_of (length (w.0 i)) (w.0 i)) ∙ numbers_there cs ∙ ap length w.1 in
-        omega arith
-
-    list_measured : list_text codes numbers x ≡ text
-    unfolding measured_text
-    list_measured = ap (measured_text codes numbers) told
-
-    pub measured_count : n ≡ length (list_text codes numbers x) → n ≡ length text
-    measured_count = counted (list_text codes numbers x) text list_measured n
-
-    pub measured_put : out' ≡ onto (list_text codes numbers x) out → out' ≡ onto text out
-    measured_put = put (list_text codes numbers x) text list_measured out out'
-
-pub ruleset measuring = (measured_refusal_count, measured_refusal_put, measured_there, measured_count, measured_put)
+pub measured_there : (codes : List ℕ) (numbers : List Float) (m : Outcome Float) → m ≡ measure_list codes numbers → (x : Float) → m ≡ Ok x
+    → place_of (length codes) codes ≤ length numbers
+unfolding measure_list
+measured_there codes numbers m m_is x e =
+    let cs = list_of (judge_list codes numbers) in
+    let w = read_written codes numbers cs (judged_read codes numbers cs (measured_list (judge_list codes numbers) x (sym m_is ∙ e))).1 in
+    let there : place_of (length codes) codes ≡ length numbers = sym (λ i. place_of (length (w.0 i)) (w.0 i)) ∙ numbers_there cs ∙ ap length w.1 in
+    omega arith
 
 -- ---- print_drawn
 -- a path of at most 256 vertices fits the program's buffers
@@ -146,16 +108,8 @@ module _ (closed : ℕ) (v : List Float) (count : ℕ) (codes codes' : List ℕ)
       go (Err r) = refl
       go (Ok cs) = refl
 
-  module _ (out out' : List ℕ) (n : ℕ) where
-    module _ (r : Refusal) (e : d ≡ Err r) where
-      refusal_drawn : refusal_text r ≡ drawn_text o
-      refusal_drawn = refusal_text_lem r o (sym (ap number_of e) ∙ number_is)
-
-      pub drawn_refusal_count : n ≡ length (refusal_text r) → n ≡ length (drawn_text o)
-      drawn_refusal_count = counted (refusal_text r) (drawn_text o) refusal_drawn n
-
-      pub drawn_refusal_put : out' ≡ onto (refusal_text r) out → out' ≡ onto (drawn_text o) out
-      drawn_refusal_put = put (refusal_text r) (drawn_text o) refusal_drawn out out'
+  pub refusal_drawn : (r : Refusal) → d ≡ Err r → refusal_text r ≡ drawn_text o
+  refusal_drawn r e = refusal_text_lem r o (sym (ap number_of e) ∙ number_is)
 
   module _ (i j : ℕ) (e : d ≡ Ok (record { codes = i; numbers = j })) where
     abbrev cs : List PathCommand
@@ -203,7 +157,7 @@ module _ (closed : ℕ) (v : List Float) (count : ℕ) (codes codes' : List ℕ)
     pub codes_most : length (take i codes') ≤ 258
     codes_most = let a = codes_few in let b = codes_count_is in rw codes_are (omega arith)
 
-    measured_drawn : measured_text (take i codes') (take j numbers') (measure_list (take i codes') (take j numbers')) ≡ drawn_text o
+    pub measured_drawn : measured_text (take i codes') (take j numbers') (measure_list (take i codes') (take j numbers')) ≡ drawn_text o
     measured_drawn =
         let a = codes_few in
         let b = codes_count_is in
@@ -213,13 +167,7 @@ module _ (closed : ℕ) (v : List Float) (count : ℕ) (codes codes' : List ℕ)
         ∙ text_drawn cs small (drawn_path_sound closed v count cs is_drawn)
         ∙ ap drawn_text (sym is_drawn)
 
-    pub drawn_count : (n : ℕ) → n ≡ length (measured_text (take i codes') (take j numbers') (measure_list (take i codes') (take j numbers'))) → n ≡ length (drawn_text o)
-    drawn_count = counted (measured_text (take i codes') (take j numbers') (measure_list (take i codes') (take j numbers'))) (drawn_text o) measured_drawn
-
-    pub drawn_put : (out out' : List ℕ) → out' ≡ onto (measured_text (take i codes') (take j numbers') (measure_list (take i codes') (take j numbers'))) out → out' ≡ onto (drawn_text o) out
-    drawn_put = put (measured_text (take i codes') (take j numbers') (measure_list (take i codes') (take j numbers'))) (drawn_text o) measured_drawn
-
-pub ruleset drawing = (drawn_refusal_count, drawn_refusal_put, codes_inside, numbers_inside, length-take-le, codes_most, room, drawn_count, drawn_put)
+pub ruleset drawing = (refusal_drawn, codes_inside, numbers_inside, length-take-le, codes_most, room, measured_drawn)
 
 -- ---- plate
 fault_text : (c : Content) (r : Refusal) → reading_of c ≡ Err r → refusal_text r ≡ content_text c
@@ -237,16 +185,9 @@ sound_text (given flag ps) r e =
     sym (λ i. drawn_text (draw_path (r_is i).closed (map (of_bits binary32) ps) (r_is i).count))
 
 module _ (text : List ℕ) (reading : Result Reading Refusal) (reading_is : reading ≡ reading_of (read_text text)) where
-  module _ (out out' : List ℕ) (n : ℕ) (r : Refusal) (e : reading ≡ Err r) where
-    refusal_plate : refusal_text r ≡ plate_text text
-    unfolding plate_text
-    refusal_plate = fault_text (read_text text) r (sym reading_is ∙ e)
-
-    pub plate_refusal_count : n ≡ length (refusal_text r) → n ≡ length (plate_text text)
-    plate_refusal_count = counted (refusal_text r) (plate_text text) refusal_plate n
-
-    pub plate_refusal_put : out' ≡ onto (refusal_text r) out → out' ≡ onto (plate_text text) out
-    plate_refusal_put = put (refusal_text r) (plate_text text) refusal_plate out out'
+  pub refusal_plate : (r : Refusal) → reading ≡ Err r → refusal_text r ≡ plate_text text
+  unfolding plate_text
+  refusal_plate r e = fault_text (read_text text) r (sym reading_is ∙ e)
 
   module _ (r : Reading) (e : reading ≡ Ok r) where
     sizes : (length (numbers_given (read_text text)) ≡ 6 * r.count) × (r.count ≤ 256) × (r.closed ≤ 4294967295)
@@ -267,19 +208,13 @@ module _ (text : List ℕ) (reading : Result Reading Refusal) (reading_is : read
           (λ i. take (sym sizes.0 i) (filled i))
           ∙ take-append_seam (numbers_given (read_text text)) (drop (length (numbers_given (read_text text))) vertices)
 
-      drawn_plate : drawn_text (draw_path r.closed (take (6 * r.count) vertices') r.count) ≡ plate_text text
+      pub drawn_plate : drawn_text (draw_path r.closed (take (6 * r.count) vertices') r.count) ≡ plate_text text
       unfolding plate_text
       drawn_plate =
           ap (λ (w : List Float). drawn_text (draw_path r.closed w r.count)) vertices_are
           ∙ sound_text (read_text text) r (sym reading_is ∙ e)
 
-      pub plate_count : (n : ℕ) → n ≡ length (drawn_text (draw_path r.closed (take (6 * r.count) vertices') r.count)) → n ≡ length (plate_text text)
-      plate_count = counted (drawn_text (draw_path r.closed (take (6 * r.count) vertices') r.count)) (plate_text text) drawn_plate
-
-      pub plate_put : (out out' : List ℕ) → out' ≡ onto (drawn_text (draw_path r.closed (take (6 * r.count) vertices') r.count)) out → out' ≡ onto (plate_text text) out
-      plate_put = put (drawn_text (draw_path r.closed (take (6 * r.count) vertices') r.count)) (plate_text text) drawn_plate
-
-pub ruleset plates = (plate_refusal_count, plate_refusal_put, count_few, vertices_fit, vertices_inside, length-take-le, plate_count, plate_put)
+pub ruleset plates = (refusal_plate, count_few, vertices_fit, vertices_inside, length-take-le, drawn_plate)
 
 -- ---- callers that hand the answer on
 pub answer_inside : (t out out' : List ℕ) (n : ℕ) → out' ≡ onto t out → n ≡ length t → n ≤ length out'

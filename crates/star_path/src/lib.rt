@@ -2,11 +2,11 @@
 #![tactic(auto)]
 
 ghost use Rattle.std.specs.Prelude.{◌≡◌, length};
+ghost use Rattle.std.proofs.Common.{lit<};
+ghost use Rattle.std.proofs.Math.Nat.{lt_trans};
 ghost use Rattle.command.specs.Commands.{numbers_of};
 ghost use Rattle.sheet.specs.Sheets.{HasRoom, Wrote};
 ghost use Rattle.polystar.specs.Polystar.{point_at, polystar_path, Sound};
-ghost use Rattle.std.proofs.Common.{lit<};
-ghost use Rattle.std.proofs.Math.Nat.{lt_trans};
 
 use path::{BezierVertex, Outline};
 use polystar::Polystar;

@@ -1,16 +1,14 @@
 -- `plate_text::print_drawn` meets its contract. Assumes nothing.
-use borrow.Author.Rules.{rules}
-use Rattle.plate_text.proofs.Ways.{drawing}
+use Rattle.std.proofs.Common.{rules}
+use Rattle.plate_text.proofs.Ways.{refusal_drawn, measured_drawn}
 use Rattle.plate_text.proofs.print_drawn.Goals as goal
 
-pub returns-in-Err-clause-value : goal.returns-in-Err-clause-value
-returns-in-Err-clause-value c = search (rules, drawing)
+pub returns-in-Err : goal.returns-in-Err
+returns-in-Err c =
+    let e = refusal_drawn _ _ _ _ _ _ _ _ c.draw_path.ensures c.requires.0 (search rules) (search rules) _ c.in-Err.is in
+    record { value = search rules; out_after = search rules }
 
-pub returns-in-Err-clause-out_after : goal.returns-in-Err-clause-out_after
-returns-in-Err-clause-out_after c = search (rules, drawing)
-
-pub returns-in-Ok-clause-value : goal.returns-in-Ok-clause-value
-returns-in-Ok-clause-value c = search (rules, drawing)
-
-pub returns-in-Ok-clause-out_after : goal.returns-in-Ok-clause-out_after
-returns-in-Ok-clause-out_after c = search (rules, drawing)
+pub returns-in-Ok : goal.returns-in-Ok
+returns-in-Ok c =
+    let e = measured_drawn _ _ _ _ _ _ _ _ c.draw_path.ensures c.requires.0 (search rules) (search rules) _ _ c.in-Ok.is in
+    record { value = search rules; out_after = search rules }
