@@ -123,26 +123,38 @@ impl<'a> Drawing<'a> {
         }
     }
 
-    // Writes it to a sheet that has room for it.
+    // Writes it with a sheet of the caller's own.
     #[tactic(auto, using(crate::proofs::Ways::path_fits), unfolding(crate::specs::Shape::shape_commands))]
-    pub fn put(&self, sheet: &mut Sheet)
+    fn write(&self, sheet: &mut Sheet)
         requires { HasRoom (commands_of self.now) sheet.old }
         ensures { Wrote (commands_of self.now) sheet.old sheet.new }
     {
         match self.shape {
             Shape::Path { closed, count } => {
-                segment_writer::write_path(
-                    closed,
-                    &Vertices {
-                        numbers: self.list,
-                        count,
-                    },
-                    sheet,
-                )
+                let vertices = Vertices {
+                    numbers: self.list,
+                    count,
+                };
+                segment_writer::write_path(closed, &vertices, sheet)
             }
             Shape::Rect(radius) => write_rect(radius, frame_of(self.list), sheet),
             Shape::Ellipse => write_ellipse(frame_of(self.list), sheet),
         }
+    }
+
+    // Writes it to a sheet that has room for it: by a sheet made here, whose places the compiler keeps in registers. Those of a sheet
+    // that is lent it would store after each segment, since it cannot tell that no number is written over them.
+    pub fn put(&self, sheet: &mut Sheet)
+        requires { HasRoom (commands_of self.now) sheet.old }
+        ensures { Wrote (commands_of self.now) sheet.old sheet.new }
+    {
+        let mut own = Sheet {
+            codes: &mut *sheet.codes,
+            numbers: &mut *sheet.numbers,
+            at: sheet.at,
+        };
+        self.write(&mut own);
+        sheet.at = own.at;
     }
 
     // Whether so much room is enough for any path of so many vertices, so that this one need not be counted.
