@@ -16,17 +16,15 @@ use Rattle.sine.proofs.WholeTurn.{fold_bound}
 use Rattle.angle.proofs.Entries.{whole, over, entry_plus, entry_minus}
 use Rattle.angle.specs.Direction.{sine_of, cosine_of, direction_of, ZerosArePlus}
 
-sine_way : (turn n : ℕ) (minus : Bool) (x : Float) → n ≡ size_of turn → minus ≡ minus_of turn → x ≡ round binary32 minus n (2 ^ 30) → x ≡ sine_of turn
-unfolding sine_of
-sine_way turn n minus x n_is minus_is x_is = x_is ∙ (λ i. round binary32 (minus_is i) (n_is i) (2 ^ 30))
-
 -- ---- as `sine_at` meets them
-module _ (turn n : ℕ) (x : Float) (x_is : x ≡ of_int binary32 (pos n)) (n_is : n ≡ size_of turn) (few : n ≤ 2 ^ 30) (minus : Bool) (minus_is : minus ≡ minus_of turn) where
-  pub sine_plus : minus ≡ false → div binary32 x whole ≡ sine_of turn
-  sine_plus h = sine_way turn n minus (div binary32 x whole) n_is minus_is (entry_plus n few minus x x_is h)
+module _ (turn : ℕ) (few : size_of turn ≤ 2 ^ 30) where
+  pub sine_plus : minus_of turn ≡ false → div binary32 (of_int binary32 (pos (size_of turn))) whole ≡ sine_of turn
+  unfolding sine_of
+  sine_plus h = entry_plus (size_of turn) few (minus_of turn) _ refl h
 
-  pub sine_minus : minus ≡ true → neg (div binary32 x whole) ≡ sine_of turn
-  sine_minus h = sine_way turn n minus (neg (div binary32 x whole)) n_is minus_is (entry_minus n few minus x x_is h)
+  pub sine_minus : minus_of turn ≡ true → neg (div binary32 (of_int binary32 (pos (size_of turn))) whole) ≡ sine_of turn
+  unfolding sine_of
+  sine_minus h = entry_minus (size_of turn) few (minus_of turn) _ refl h
 
 pub direction_way : (turn on : ℕ) (x y : Float) → on ≡ on_of turn → x ≡ sine_of on → y ≡ sine_of turn → record { cosine = x; sine = y } ≡ direction_of turn
 unfolding cosine_of direction_of

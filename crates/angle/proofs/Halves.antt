@@ -4,6 +4,7 @@ use Rattle.std.proofs.Common.{◌≡◌, ℕ, ◌+◌, ◌*◌, ◌/◌, ◌^◌
 use native.Mathlib.Nat.{min-eq_left}
 use native.Mathlib.Nat.{add-div_right, div-div-eq-div-mul}
 use lib.Ieee.{Float, nan, inf, fin, binary32, up, down, lt, mul, of_bits, of_fields, odd, fits, to_unsigned}
+use lib.Ieee.Bits.{is_true}
 use lib.Ieee.Exact.{HasValue}
 use lib.Ieee.Fits.{down_pos}
 use lib.Ieee.Nearest.{div_same}
@@ -111,30 +112,26 @@ half_up n d p =
     ∙ div-div-eq-div-mul (2 * (16 * n) + d) d 2 ∙ ap (λ (k : ℕ). (2 * (16 * n) + d) / k) c
 
 -- ---- as `sixteenths` meets them
-module _ (x y : Float) (f : T (fits binary32 x)) (inside : within number_limit x ≡ true) (y_is : y ≡ abs x) where
+module _ (x : Float) (f : fits binary32 x ≡ true) (inside : within number_limit x ≡ true) where
   S : Size x
-  S = size x f (within→bounded (2 ^ 20) number_limit x limit_value inside)
+  S = size x (subst T (sym f) tt) (within→bounded (2 ^ 20) number_limit x limit_value inside)
 
-  value : HasValue (mul binary32 y thirty_two32) false (S.n * 2 ^ 5) S.d
-  value = subst (λ (z : Float). HasValue (mul binary32 z thirty_two32) false (S.n * 2 ^ 5) S.d) (sym y_is) S.product
+  few : S.n * 2 ^ 5 < 2 ^ 64 * S.d
+  few = room S.n S.d S.some S.most
 
-  small : S.n * 2 ^ 5 < 2 ^ 64 * S.d
-  small = room S.n S.d S.some S.most
+  counted : to_unsigned 64 (mul binary32 (abs x) thirty_two32) ≡ S.n * 2 ^ 5 / S.d
+  counted = whole_part (S.n * 2 ^ 5) S.d S.some few _ S.product
 
-  pub product_counted : T (lt (fin true 1 (pos 0)) (mul binary32 y thirty_two32)) × T (lt (mul binary32 y thirty_two32) (fin false 1 (pos 64)))
-  product_counted = (
-    over_minus_one (S.n * 2 ^ 5) S.d S.some small (mul binary32 y thirty_two32) value,
-    under_limit (S.n * 2 ^ 5) S.d S.some small (mul binary32 y thirty_two32) value,
-  )
+  pub product_over : lt (fin true 1 (pos 0)) (mul binary32 (abs x) thirty_two32) ≡ true
+  product_over = is_true _ (over_minus_one (S.n * 2 ^ 5) S.d S.some few _ S.product)
 
-  module _ (halves : ℕ) (halves_is : halves ≡ to_unsigned 64 (mul binary32 y thirty_two32)) where
-    counted : halves ≡ S.n * 2 ^ 5 / S.d
-    counted = halves_is ∙ whole_part (S.n * 2 ^ 5) S.d S.some small (mul binary32 y thirty_two32) value
+  pub product_under : lt (mul binary32 (abs x) thirty_two32) (fin false 1 (pos 64)) ≡ true
+  product_under = is_true _ (under_limit (S.n * 2 ^ 5) S.d S.some few _ S.product)
 
-    pub halves_few : halves ≤ 2 ^ 25
-    halves_few = subst (λ (k : ℕ). k ≤ 2 ^ 25) (sym counted) (quotient_small S.n S.d S.some S.most)
+  pub halves_few : to_unsigned 64 (mul binary32 (abs x) thirty_two32) ≤ 2 ^ 25
+  halves_few = subst (λ (k : ℕ). k ≤ 2 ^ 25) (sym counted) (quotient_small S.n S.d S.some S.most)
 
-    pub sixteenths_are : ((halves + 1) / 2 ≡ sixteenths_in x) × ((halves + 1) / 2 ≤ 2 ^ 24)
-    sixteenths_are =
-        let few = halves_few in
-        (ap (λ (k : ℕ). (k + 1) / 2) counted ∙ half_up S.n S.d S.some ∙ sym S.is, omega (arith, few))
+  pub halved : (to_unsigned 64 (mul binary32 (abs x) thirty_two32) + 1) / 2 ≡ sixteenths_in x
+  halved = ap (λ (k : ℕ). (k + 1) / 2) counted ∙ half_up S.n S.d S.some ∙ sym S.is
+
+pub ruleset halves = (product_over, product_under, halves_few, halved)

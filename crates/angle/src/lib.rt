@@ -19,6 +19,7 @@ pub struct Direction {
 // How many sixteenths of a degree there are in an angle's size: 16 times it, rounded half up. 32 times
 // it is exact, and one more than its whole part has the half that is asked for.
 // That degrees are within the limit is no type: a repeater holds any number until it is checked, and each part of a step is a new angle.
+#[tactic(auto, using(crate::proofs::Halves::halves))]
 fn sixteenths(degrees: f32) -> u64
     requires { within number_limit degrees ≡ true }
     ensures { (result ≡ sixteenths_in degrees) × (result ≤ 2 ^ 24) }
@@ -42,6 +43,7 @@ pub fn turn(degrees: f32) -> Turn
 }
 
 // The sine of a turn: the f32 nearest to its entry of the table over 2^30, with its sign. The quotient is exact.
+#[tactic(auto, using(crate::proofs::Directions::sine_plus, crate::proofs::Directions::sine_minus))]
 fn sine_at(turn: Turn) -> f32
     ensures { result ≡ sine_of turn.sixteenths }
 {

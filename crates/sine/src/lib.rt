@@ -189,6 +189,7 @@ static SINES: [u32; 1441] = [
 ];
 
 // An entry of the table.
+#[tactic(auto, unfolding(crate::specs::Table::sines))]
 fn entry_at(k: usize) -> u32
     requires { k ≤ 1440 }
     ensures { result ≡ entry k }
