@@ -15,7 +15,7 @@ use matrix::Matrix;
 use point::Point;
 use repeater::RepeaterStyle;
 
-// A repeater from the eleven numbers that C lends.
+// A repeater from the eleven numbers that C lends, and the mode, a number too: any may come.
 pub fn repeater_of(numbers: &[f32], mode: u8) -> RepeaterStyle
     requires { 11 ≤ length numbers.now }
     ensures { result ≡ spec.repeater_of numbers.now mode }

@@ -1,5 +1,4 @@
--- Which of the two paths a rectangle has, and how much of it there is at most. Assumes nothing.
-use mathlib.Core.Path.{◌≡◌}
+-- How much of a rectangle there is at most. Assumes nothing.
 use mathlib.Core.Bool.{Bool, true, false, cond}
 use Prim.Native.Nat.{◌≤◌}
 use native.Mathlib.Omega.{arith}
@@ -9,16 +8,7 @@ use Rattle.command.specs.Commands.{numbers_of}
 use Rattle.rect.specs.declared.Bounds.{Bounds}
 use Rattle.rect.specs.Rect.{epsilon, plain_rect, round_rect, rect_path}
 
-module _ (box : Bounds) (q : Float) (t : Bool) (is : t ≡ le q epsilon) where
-  pub rect_plain : t ≡ true → rect_path box q ≡ plain_rect box
-  unfolding rect_path
-  rect_plain h = rw (← is, h)
-
-  pub rect_round : t ≡ false → rect_path box q ≡ round_rect box q
-  unfolding rect_path
-  rect_round h = rw (← is, h)
-
--- how many commands and numbers there are at most
+-- how many commands and numbers there are
 pub rect_room_lem : (box : Bounds) (q : Float) → (length (rect_path box q) ≤ 10) × (length (numbers_of (rect_path box q)) ≤ 34)
 unfolding rect_path
 rect_room_lem box q = go (le q epsilon)
