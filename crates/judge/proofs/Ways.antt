@@ -12,7 +12,7 @@ use native.Mathlib.Omega.{arith}
 use lib.Dec.{ltb}
 use lib.Ieee.{Float}
 use lib.ListN.{length, get_or, take, drop, length-drop}
-use lib.Seq.{length-take-le}
+pub use Rattle.std.proofs.lemmas.List.{length-take-le}
 use borrow.Author.Tests.{lt-ltb, le-ltb, ltb-false, ltb-true, not-false}
 use Rattle.command.specs.declared.PathCommand.{PathCommand}
 use Rattle.command.specs.declared.Refusal.{Refusal}
@@ -20,7 +20,8 @@ use Rattle.command.specs.declared.Refusal.TheVariants.{TooMany, OutOfBounds}
 use Rattle.command.specs.Outcomes.{Outcome, number_of, mapped, and_then, value_or, list_of, ◌gives◌, checked}
 use Rattle.command.proofs.Outcomes.{refused_accepted, checks_passed}
 use Rattle.reader.specs.Read.{size_of_code, read_command, read_from}
-use Rattle.reader.proofs.Commands.{size_most, accepted_read}
+pub use Rattle.reader.proofs.Commands.{size_most}
+use Rattle.reader.proofs.Commands.{accepted_read}
 use Rattle.judge.specs.Lists.{in_front, read_list, judge_list, without_commands, place_of, asked_for, judge_command, find_command, command_fault, command_part}
 use Rattle.judge.proofs.Walk.{Left, walk_start, list_many, walk_refused, walk_next, walk_over, walk_end}
 
@@ -95,23 +96,18 @@ place_suc [] i h = absurd (omega arith)
 place_suc (c ∷ cs) zero h = omega arith
 place_suc (c ∷ cs) (suc i) h = let e = place_suc cs i (omega arith) in omega arith
 
-place_most : (i : ℕ) (codes : List ℕ) → place_of i codes ≤ 6 * i
+pub place_most : (i : ℕ) (codes : List ℕ) → place_of i codes ≤ 6 * i
 unfolding place_of
 place_most zero codes = omega arith
 place_most (suc i) [] = omega arith
 place_most (suc i) (c ∷ cs) = let e = place_most i cs in omega (arith, size_most c)
 
-module _ (codes : List ℕ) where
-  pub place_start : 0 ≡ place_of 0 codes
-  unfolding place_of
-  place_start = refl
+pub place_start : (codes : List ℕ) → place_of 0 codes ≡ 0
+unfolding place_of
+place_start codes = refl
 
-  module _ (i place : ℕ) (place_is : place ≡ place_of i codes) (h : i < length codes) (n : ℕ) (n_is : n ≡ size_of_code (get_or codes i 0)) where
-    pub place_next : place + n ≡ place_of (i + 1) codes
-    place_next = rw (add-one, place_is, n_is) (place_suc codes i h)
-
-    pub place_room : length codes ≤ 262144 → place + n < 18446744073709551616
-    place_room few = omega (arith, place_most i codes, size_most (get_or codes i 0))
+pub place_next : (codes : List ℕ) (i : ℕ) → i < length codes → place_of (i + 1) codes ≡ place_of i codes + size_of_code (get_or codes i 0)
+place_next codes i h = rw add-one (sym (place_suc codes i h))
 
 -- the first k codes by themselves have as many numbers
 place_front : (k : ℕ) (codes : List ℕ) → place_of k (take k codes) ≡ place_of k codes
@@ -120,10 +116,10 @@ place_front zero codes = refl
 place_front (suc k) [] = refl
 place_front (suc k) (c ∷ cs) = ap (λ (n : ℕ). size_of_code c + n) (place_front k cs)
 
-pub place_taken : (codes : List ℕ) (k place : ℕ) → place ≡ place_of (length (take k codes)) (take k codes) → k ≤ length codes → place ≡ place_of k codes
-place_taken codes k place e h = e ∙ ap (λ (n : ℕ). place_of n (take k codes)) (length-take-le k codes h) ∙ place_front k codes
+pub place_taken : (codes : List ℕ) (k i : ℕ) → i ≡ k → place_of i (take k codes) ≡ place_of k codes
+place_taken codes k i e = ap (λ (n : ℕ). place_of n (take k codes)) e ∙ place_front k codes
 
-pub ruleset places = (place_start, place_next, place_room, place_taken)
+pub ruleset places = (place_start, place_next, place_most, size_most, place_taken, length-take-le)
 
 -- ---- accepted lists
 -- the first command of an accepted list is read, and so are the rest

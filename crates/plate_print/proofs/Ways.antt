@@ -12,6 +12,7 @@ use Rattle.std.proofs.Common.{append_assoc}
 use Rattle.command.proofs.Buffers.{sets_append, sets_onto}
 use Rattle.reader.specs.Read.{size_of_code}
 pub use Rattle.reader.proofs.Commands.{size_most}
+pub use Rattle.judge.proofs.Ways.{place_next}
 use Rattle.judge.specs.Lists.{place_of}
 use Rattle.plate_print.specs.Lines.{digit_of, leading_digit, leading, column, columns, numbers_line, list_lines}
 use Rattle.plate_print.proofs.Columns.{leading_length, column_length}
@@ -98,16 +99,7 @@ columns_step numbers i h = rw add-one (columns_suc numbers i h)
 pub ruleset columning = (columns_taken, columns_step, column_length, length-sets, length-append, sets_append, take_all)
 
 -- ---- put_commands
-place_suc : (codes : List ℕ) (i : ℕ) → i < length codes → place_of (suc i) codes ≡ place_of i codes + size_of_code (get_or codes i 0)
-unfolding place_of
-place_suc [] i h = absurd (omega arith)
-place_suc (c ∷ cs) zero h = omega arith
-place_suc (c ∷ cs) (suc i) h = let e = place_suc cs i (omega arith) in omega arith
-
--- where the numbers of the next command start, and that this command's are among those of all
-pub place_step : (codes : List ℕ) (i : ℕ) → i < length codes → place_of (i + 1) codes ≡ place_of i codes + size_of_code (get_or codes i 0)
-place_step codes i h = rw add-one (place_suc codes i h)
-
+-- the numbers of a command are among those of all
 pub place_inside : (codes : List ℕ) (i : ℕ) → i < length codes → place_of i codes + size_of_code (get_or codes i 0) ≤ place_of (length codes) codes
 unfolding place_of
 place_inside [] i h = absurd (omega arith)
@@ -134,4 +126,4 @@ lines_step codes v i h = rw add-one (lines_suc codes v i h)
 pub lines_taken : (codes : List ℕ) (v : List Float) (i : ℕ) → i ≤ length codes → length (list_lines (take i codes) v) ≤ 69 * i
 lines_taken codes v i h = let m = list_most (take i codes) v in let l = length-take-le i codes h in omega arith
 
-pub ruleset commanding = (place_step, place_inside, lines_step, lines_taken, size_most, drop-drop, length-drop, length-take-le, length-sets, length-append, sets_append, take_all)
+pub ruleset commanding = (place_next, place_inside, lines_step, lines_taken, size_most, drop-drop, length-drop, length-take-le, length-sets, length-append, sets_append, take_all)
