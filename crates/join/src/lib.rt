@@ -28,7 +28,7 @@ fn row_need(row: ItemRow, items: &[f32]) -> Outcome<Size>
     }
 }
 
-// What the sources among rows need together, or the first refusal of one.
+// What the sources among rows need together, or the first refusal of one. The rows and the numbers of all rows are two lists of C's.
 #[tactic(auto, using(crate::proofs::Ways::rows_needs))]
 fn rows_need(rows: &[[u32; 6]], items: &[f32]) -> Outcome<Size>
     requires { length rows.now ≤ 256 }
@@ -97,7 +97,8 @@ fn join_rows(
     Ok(need)
 }
 
-// Draws the merge of the first n rows into two buffers.
+// Draws the merge of the first n rows into two buffers. The rows and their number stay apart, here and below, as C lends them: that
+// the list holds so many is a check of its own, in its place among the others.
 #[tactic(auto, using(crate::proofs::Ways::merges))]
 pub fn draw_merge(
     rows: &[u32],

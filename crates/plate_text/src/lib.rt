@@ -9,7 +9,7 @@ ghost use Rattle.plate_text.specs.Plate.{drawn_text, plate_text, measured_text};
 
 use plate_read::Reading;
 
-// Prints a command list and its length, or why it has none. Each step prints its own refusal: so its contract names the
+// Prints a command list and its length, or why it has none, into fixed memory, as all that is printed here: `plate` has no heap. Each step prints its own refusal: so its contract names the
 // whole text that is printed, and not a text or a refusal that the caller has yet to print.
 #[tactic(auto, using(crate::proofs::Ways::measured_there), unfolding(crate::specs::Plate::measured_text))]
 fn print_measured(codes: &[u8], numbers: &[f32], out: &mut [u8]) -> usize
