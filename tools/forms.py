@@ -37,6 +37,8 @@ def functions(root):
             ways = [re.compile(r"^" + match.group(1) + r"(?=\{\n)", re.M), re.compile(r"\)(?: -> [^\n{]*)? (?=\{\n)")]
             ends = [way.search(text, match.end()) for way in ways]
             opening = min([end.end() for end in ends if end], default=-1)
+            if re.search(r";$", text[match.end():opening], re.M):
+                continue  # a function of a trait, without a body
             closing = re.search(r"^" + match.group(1) + r"\}$", text[opening:], re.M)
             if opening < 0 or not closing:
                 continue

@@ -79,13 +79,12 @@ pub fn tell_size(size: Outcome<Size>, codes: &mut usize, numbers: &mut usize) ->
 }
 
 // Numbers at a place, and the place after them.
+#[tactic(auto, using(crate::proofs::Buffers::copied_is))]
 pub fn put<const N: usize>(numbers: &mut [f32], at: usize, values: [f32; N]) -> usize
     requires { at + N ≤ length numbers.old }
     ensures { (result ≡ at + N) × (numbers.new ≡ sets numbers.old at values.entry) }
 {
-    for k in 0..N {
-        numbers[at + k] = values[k];
-    }
+    numbers[at..at + N].copy_from_slice(&values);
     at + N
 }
 

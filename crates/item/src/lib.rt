@@ -1,9 +1,9 @@
 // One row of an item list, and the rules for a row by itself.
 #![tactic(auto)]
 
-ghost use Rattle.std.specs.Prelude.{◌≡◌, ◌*◌, ◌+◌, ◌≤◌, length};
+ghost use Rattle.std.specs.Prelude.{◌≡◌, ◌≤◌};
 ghost use Rattle.item.specs.Kinds.{kind_of, is_source_kind, is_style_kind};
-ghost use Rattle.item.specs.Rows.{row_of, item_row, is_mark, is_listed, entries_of};
+ghost use Rattle.item.specs.Rows.{row_of, is_mark, is_listed, entries_of};
 
 // What an item is, with the two letters that Lottie writes for it.
 #[derive(Clone, Copy, PartialEq, Eq)]
@@ -157,20 +157,4 @@ impl ItemRow {
             _ => 0,
         }
     }
-}
-
-// The row at a place of a list of rows.
-pub fn item_row(rows: &[u32], r: usize) -> ItemRow
-    requires { 6 * r + 6 ≤ length rows.now }
-    ensures { result ≡ item_row rows.now r }
-{
-    let i = 6 * r;
-    ItemRow::from([
-        rows[i],
-        rows[i + 1],
-        rows[i + 2],
-        rows[i + 3],
-        rows[i + 4],
-        rows[i + 5],
-    ])
 }

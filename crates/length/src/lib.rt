@@ -20,20 +20,20 @@ fn is_there(least: Option<f32>, pen: Pen) -> bool
     }
 }
 
-// Codes and numbers are two parameters here for the reason at `judge::judge`.
 // Reads a list from its start: each command is judged, then drawn by the pen. What lies past the first command by which the
 // list is so long is not read. Tells whether there is one, how many commands were read, and how long they are.
+// Codes and numbers are two parameters for the reason at `judge::judge`.
 #[tactic(auto, using(crate::proofs::Ways::walking))]
 pub fn walk(codes: &[u8], numbers: &[f32], least: Option<f32>) -> Outcome<(bool, usize, f32)>
     ensures { result ≡ walk_from least start_pen 0 codes.now numbers.now }
 {
     let mut pen = Pen::start();
     let mut place = 0;
-    for i in 0..codes.len() {
+    for (i, code) in codes.iter().enumerate() {
         if is_there(least, pen) {
             return Ok((true, i, pen.length));
         }
-        let (command, next) = reader::read_command(codes[i], numbers, place)?;
+        let (command, next) = reader::read_command(*code, numbers, place)?;
         pen = pen.step(command);
         place = next;
     }

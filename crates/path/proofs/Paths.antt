@@ -64,11 +64,6 @@ unfoldable pub last_of : BezierVertex → List BezierVertex → BezierVertex
 last_of a [] = a
 last_of a (b ∷ bs) = last_of b bs
 
-pub last_vertex : (v : List Float) (n : ℕ) → last_of (vertex_at v 0) (vertices_of n (drop 6 v)) ≡ vertex_at v n
-unfolding vertices_of last_of
-last_vertex v zero = refl
-last_vertex v (suc n) = last_vertex (drop 6 v) n ∙ shift v n
-
 -- one vertex more is one segment more, from the last
 pub segments_more : (a : BezierVertex) (bs : List BezierVertex) (c : BezierVertex)
     → bezier_segments a (bs ++ c ∷ []) ≡ bezier_segments a bs ++ bezier_segment (last_of a bs) c ∷ []

@@ -132,7 +132,8 @@ pub fn end_place(line: bool, at: usize) -> usize
 }
 
 // How many commands the path has. The flag stays the number that C lends, as in each function that takes it: with any number but
-// 1 a path is open, and a bool would ask the caller to say so first.
+// 1 a path is open, and a bool would ask the caller to say so first. The count is asked for as such, and not with the vertices: it is all
+// that this hangs on.
 pub fn bezier_count(closed: u32, count: usize) -> usize
     requires { count ≤ 1024 }
     ensures { result ≡ bezier_count closed count }

@@ -9,7 +9,7 @@ use lib.Ieee.{Float, of_bits, binary32}
 use lib.ListN.{length, get_or, take, drop, length-append, length-drop, length-map}
 use denote.Param.Members.{Mut}
 use borrow.Rule.Slice.PartMut.{put_mid}
-use lib.Seq.{sets, sets-eq, drop-drop, length-sets, take_all, take-append_seam, drop-append_seam}
+use lib.Seq.{sets, length-sets, take_all, take-append_seam, drop-append_seam}
 use Rattle.std.proofs.Math.ListN.{get_or-map}
 use Rattle.std.proofs.Common.{append_assoc}
 use Rattle.std.proofs.lemmas.List.{take_min, drop_min, ext_get_or}
@@ -18,7 +18,7 @@ use Rattle.std.specs.Fn.{Called}
 use Rattle.std.specs.Prelude.{Some, None, Result, Ok, Err}
 use Rattle.command.specs.declared.Refusal.{Refusal}
 use Rattle.command.specs.declared.Refusal.TheVariants.{TooMany, Unlisted}
-use Rattle.command.proofs.Buffers.{sets_append, sets_onto}
+use Rattle.command.proofs.Buffers.{sets_append, sets_onto, copied_is}
 use Rattle.plate_read.specs.declared.Reading.{Reading}
 use Rattle.plate_read.specs.Text.{field_value, line_form, line_values, Content, faulty, given, before, read_lines, reading_of}
 use Rattle.plate_read.specs.Fields.{line_patterns}
@@ -57,14 +57,6 @@ mapped_is g f xs ys n gives m l =
     let long = m.long in
     let c = m.at i 0 zero (omega arith) in
     gives c.0 c.1 (get_or xs i 0) (get_or ys i zero) c.2 ∙ sym (get_or-map (of_bits binary32) xs i 0))
-
--- numbers copied over a part of a list
-copied_is : (l vs : List Float) (i k : ℕ) → k ≡ length vs → i + length vs ≤ length l → put_mid i k l vs ≡ sets l i vs
-copied_is l vs i k k_is room =
-    ap (λ (m : ℕ). take i l ++ (vs ++ drop m (drop i l))) k_is
-    ∙ ap (λ (m : List Float). take i l ++ (vs ++ m)) (drop-drop (length vs) i l)
-    ∙ sym (append_assoc (take i l) vs (drop (i + length vs) l))
-    ∙ sym (sets-eq vs l i room)
 
 abbrev pub reading : ℕ → ℕ → Result Reading Refusal
 reading flag count = Ok (record { closed = flag; count = count })

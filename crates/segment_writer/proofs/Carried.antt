@@ -3,7 +3,6 @@
 use mathlib.Core.Path.{◌≡◌, refl, sym, ap, ap₂, ◌∙◌}
 use mathlib.Core.List.{List, [], ◌∷◌, ◌++◌, append_assoc, append-nil}
 use Prim.Native.Nat.{ℕ, ◌+◌, ◌-◌, ◌≤◌, ◌<◌}
-use native.Mathlib.Nat.{add-zero}
 use native.Mathlib.Omega.{arith}
 use lib.Ieee.{Float}
 use lib.ListN.{length, take, drop, length-append}
@@ -27,17 +26,6 @@ use Rattle.segment_writer.specs.Followed.{Followed, FollowedRoom}
 -- ---- commands one after another, of which the last may be followed or not
 one_command : (c : PathCommand) → length (numbers_of (c ∷ [])) ≡ length (coordinates_of c)
 one_command c = ap length (append-nil (coordinates_of c))
-
-pub followed_none : (p : Sheet) → Followed [] p p
-followed_none p = record {
-  same_codes = refl;
-  same_numbers = refl;
-  codes_at = sym (add-zero p.at.codes);
-  numbers_at = sym (add-zero p.at.numbers);
-  codes_are = refl;
-  numbers_same = refl;
-  numbers_are = λ more h. refl;
-}
 
 module _ (cs : List PathCommand) (c : PathCommand) (some : 2 ≤ length (coordinates_of c)) (p q : Sheet) (F : Followed cs p q) where
   -- a command that the list is followed by has numbers enough

@@ -1,12 +1,12 @@
 -- Laws of what a sheet writes: one list of commands after another, in room for both. Assumes nothing.
 use mathlib.Core.Path.{◌≡◌, refl, sym, ◌∙◌}
 use mathlib.Core.List.{List, [], ◌∷◌, ◌++◌}
-use Prim.Native.Nat.{ℕ, ◌+◌, ◌≤◌, ◌<◌}
+use Prim.Native.Nat.{ℕ, ◌+◌, ◌<◌}
 use native.Mathlib.Nat.{add-zero}
 use native.Mathlib.Omega.{arith}
 use lib.ListN.{length, get_or, take, drop, length-append}
 use lib.Seq.{length-sets}
-use Rattle.std.proofs.lemmas.List.{take_more, take-append-drop, take_all}
+use Rattle.std.proofs.lemmas.List.{take_more, take-append-drop}
 use Rattle.command.specs.declared.PathCommand.{PathCommand}
 use Rattle.command.specs.Commands.{codes_of, numbers_of}
 use Rattle.command.proofs.Buffers.{sets_append}
@@ -54,14 +54,6 @@ module _ (all cs ds : List PathCommand) (is : all ≡ cs ++ ds) (p q : Sheet) wh
     numbers_are = rw (numbers_append cs ds, sets_append (numbers_of cs) (numbers_of ds) p.numbers.now p.at.numbers) (rw (v.numbers_are, v.numbers_at) at w.numbers_are);
   })
 
--- ---- a list of commands by another name
-module _ (cs ds : List PathCommand) (is : cs ≡ ds) (p : Sheet) where
-  pub same_room : HasRoom cs p → HasRoom ds p
-  same_room h = rw is at h
-
-  pub same_wrote : (q : Sheet) → Wrote ds p q → Wrote cs p q
-  same_wrote q w = rw is w
-
 -- ---- commands one after another, of which k are written
 module _ (cs : List PathCommand) (k : ℕ) (p q : Sheet) (w : Wrote (take k cs) p q) where
   module _ (d : PathCommand) (h : k < length cs) where
@@ -72,8 +64,3 @@ module _ (cs : List PathCommand) (k : ℕ) (p q : Sheet) (w : Wrote (take k cs) 
 
     pub wrote_more : (r : Sheet) → Wrote (get_or cs k d ∷ []) q r → Wrote (take (k + 1) cs) p r
     wrote_more r v = wrote_both (take (k + 1) cs) (take k cs) (get_or cs k d ∷ []) (take_more cs k d h) p q r w v
-
-  pub wrote_all : length cs ≤ k → Wrote cs p q
-  wrote_all h = rw (take_all k cs h) at w
-
-pub ruleset runs = (wrote_none, room_more, wrote_more, wrote_all)
