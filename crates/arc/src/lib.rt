@@ -20,7 +20,8 @@ fn is_inside(p: Point) -> bool
     float::is_within(p.x, 4194304.0) && float::is_within(p.y, 4194304.0)
 }
 
-// A quadratic curve whose points are within the limit.
+// A quadratic curve whose points are within the limit. The three types below have like functions: what their ghost fields know is not
+// the same, and one type for all would take that from a trait of its own, which is longer.
 #[derive(Clone, Copy)]
 struct InsideQuad {
     quad: Quad,
@@ -99,7 +100,8 @@ impl Stepped for LevelQuad {
         self.quad.start()
     }
 
-    // At the eighths `mul_add` would meet midpoints, and exact sums need no `mul_add`.
+    // At the eighths `mul_add` would meet midpoints, and exact sums need no `mul_add`. The two axes are written out here and for a cubic:
+    // as fields, made once, each would need facts that tie it to the curve.
     #[tactic(auto, using(crate::proofs::Points::quad_points))]
     fn point(self, step: u16) -> Point {
         let Quad {

@@ -8,8 +8,8 @@ ghost use Rattle.curve.specs.Curve as spec;
 
 use point::Point;
 
-// How far one point is from another. Nothing is known of the two ends of a chord together, here and in `polyline`, that a type
-// could say.
+// How far one point is from another. Nothing is known of the two ends of a chord together that a type could say; `polyline` knows
+// that each end is finite, which is a fact of one point.
 #[tactic(auto, using(crate::proofs::Ways::distance_is))]
 pub fn distance(a: Point, b: Point) -> f32
     ensures { result ≡ spec.distance a b }
@@ -36,7 +36,8 @@ pub trait Stepped: Copy {
         ensures { result ≡ point self step };
 }
 
-// The length of such a curve: a chord to the point of each step, added up in order.
+// The length of such a curve: a chord to the point of each step, added up in order. With `1..=STEPS` the loop would end at two places,
+// and each fact of it would be of the step before.
 #[tactic(auto, using(crate::proofs::Chords::walking))]
 fn by_chords<C: Stepped>(curve: C) -> f32
     ensures { result ≡ spec.chords (C.point curve) C.STEPS }
@@ -51,7 +52,8 @@ fn by_chords<C: Stepped>(curve: C) -> f32
     length
 }
 
-// A quadratic curve.
+// A quadratic curve. It and a cubic are two types: each definition names its points, `control` or `control1` and `control2`, which an
+// array of three or four would not.
 #[derive(Clone, Copy)]
 pub struct Quad {
     pub start: Point,

@@ -1,4 +1,4 @@
--- The weighted sum of coordinates as `weighted` and `weighted_quad` take it: what `narrowed` keeps of each sum in binary64 is what binary32 rounds it to. Assumes nothing.
+-- The weighted sum of coordinates as the two `weighted` take it: what `narrowed` keeps of each sum in binary64 is what binary32 rounds it to. Assumes nothing.
 use mathlib.Core.Path.{◌≡◌, ap, ◌∙◌}
 use Prim.Native.Nat.{◌+◌}
 use native.Mathlib.Omega.{arith}

@@ -18,7 +18,8 @@ fn of_step(step: u32) -> f32
     step as f32 / 32.0
 }
 
-// What each of the four points of a cubic counts at a step.
+// What each of the four points of a cubic counts at a step. It and `QuadWeights` differ in the number of weights and in the facts of
+// their sum, which name each weight.
 #[derive(Clone, Copy)]
 struct CubicWeights {
     start: f64,
@@ -28,7 +29,8 @@ struct CubicWeights {
     ghost weights: { ∥ Weight.Weights start control1 control2 end ∥₁ },
 }
 
-// One coordinate of each of the four points of a cubic, of like size.
+// One coordinate of each of the four points of a cubic, of like size. It and `QuadAxis` have sums of their own, of four and of three:
+// the definitions of the points name each coordinate.
 #[derive(Clone, Copy)]
 pub struct CubicAxis {
     pub start: f32,
@@ -67,7 +69,7 @@ impl CubicAxis {
     }
 }
 
-// eighth / 8, as a step of 24: every third of them.
+// eighth / 8, as a step of 24: every third of them. `of_step` is no twin: a cubic's step is one of 32, and of every one.
 #[tactic(auto, using(crate::proofs::Eighths::eighth_casts, crate::proofs::Eighths::eighth_is))]
 fn of_eighth(eighth: u32) -> f32
     requires { eighth < 8 }
@@ -122,13 +124,14 @@ impl QuadAxis {
     }
 }
 
-// The bit pattern of x without its sign; a NaN's is larger than any number's.
+// The bit pattern of x without its sign. A NaN's pattern is not known, so 0x7fc0_0000 stands for it, larger than any number's: then
+// `is_level` answers no, where an Option would be tested at each number.
 #[tactic(auto, using(ieee::proofs::Pattern::is_number_eq))]
 fn bare(x: f32) -> u32 {
-    if x == x {
-        f32::to_bits(x) % 0x8000_0000
-    } else {
+    if x.is_nan() {
         0x7fc0_0000
+    } else {
+        x.to_bits() % 0x8000_0000
     }
 }
 
@@ -141,7 +144,7 @@ fn is_near(x: f32, top: u32) -> bool
     if !float::is_within(x, 4194304.0) {
         return false;
     }
-    let pattern = f32::to_bits(x);
+    let pattern = x.to_bits();
     let size = pattern % 0x8000_0000;
     pattern == 0 || size <= top && top - 0x0680_0000 <= size
 }

@@ -16,7 +16,7 @@ mod parts;
 
 pub use parts::Parts;
 
-// The pattern of +infinity.
+// The pattern of +infinity. A constant's value takes a call by its path alone.
 const INFINITY: u64 = f32::to_bits(f32::INFINITY) as u64;
 
 // How many places the digits of a pattern with a clear sign stand above the smallest float's.
@@ -46,7 +46,8 @@ pub fn split(x: f32) -> Option<Parts>
     })
 }
 
-// Whether x is no NaN and no infinity.
+// Whether x is no NaN and no infinity. std's contract says `float_is_finite`, and the definitions and laws here `finite`: the function
+// stands to promise their word. `abs` does so for `Sign.abs`.
 pub fn is_finite(x: f32) -> bool
     ensures { result ≡ finite x }
 {
@@ -82,6 +83,7 @@ pub fn abs(x: f32) -> f32
 
 // The smaller of two, where a NaN gives way; the second of two that compare equal, of which `f32::min` may answer either.
 // x and y are two operands, here and wherever they stand side by side, and no point: a type for both would have nothing to say.
+// `max` has the same shape: each is the definition of its name to the letter, as the laws on the two cite them.
 #[tactic(auto, unfolding(ieee::specs::Choice::min))]
 pub fn min(x: f32, y: f32) -> f32
     ensures { result ≡ Choice.min x y }
@@ -120,7 +122,8 @@ pub fn is_within(x: f32, limit: f32) -> bool
     x <= limit && -limit <= x
 }
 
-// Whether each number is at most `limit` in absolute value. It goes to the end: where each number is, `all` takes half as long again.
+// Whether each number is at most `limit` in absolute value. It goes to the end: `all`, which stops at the first that is not, is slower
+// where each number is.
 pub fn all_within(numbers: &[f32], limit: f32) -> bool
     ensures { result ≡ all_within limit numbers.now }
 {

@@ -10,7 +10,7 @@ mod term;
 use term::Term;
 
 // a * b + c, rounded once, by integers: right everywhere. The smallest product of two floats is 2^214 of the units 2^-512.
-// Written into `mul_add` it would cost the quick way a fifth more time, for registers that it alone uses. C hands over a, b and c apart, and a
+// Written into `mul_add` it would make the quick way slower, for registers that it alone uses. C hands over a, b and c apart, and a
 // type for the three would have nothing to say of them.
 #[cold]
 pub fn mul_add_exact(a: f32, b: f32, c: f32) -> f32
@@ -58,7 +58,8 @@ fn quick(a: f32, b: f32, c: f32) -> Option<f32>
     Some(float::signed(t >= 0x8000_0000_0000_0000, p))
 }
 
-// a * b + c, rounded once. `f32::mul_add` promises the same; the steps are written out here so that a wrong one can be shown to be refused.
+// a * b + c, rounded once. `f32::mul_add` would be quicker. But core defines its answer by `float_mul_add`, which is not proved equal to
+// `fma`, and three must-fail edits (`sticky_lost`, `tie_up`, `midpoint_taken_fast`) are of the steps that are written out here.
 pub fn mul_add(a: f32, b: f32, c: f32) -> f32
     ensures { result ≡ fma binary32 a b c }
 {

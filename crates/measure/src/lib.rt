@@ -55,6 +55,8 @@ impl Pen {
         }
     }
 
+    // It, `quad_to` and `cubic_to` write the same `map_or`: a method that takes the closure would have to say in its contract what the
+    // closure answers, which is longer than the call.
     #[tactic(auto, unfolding(crate::specs::Length::line_to, crate::specs::Length::added))]
     fn line_to(self, next: Point) -> Pen
         ensures { result ≡ spec.line_to self next }

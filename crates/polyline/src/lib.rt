@@ -42,7 +42,7 @@ pub trait FiniteSteps: Stepped {
 }
 
 // The length of such a curve, by a chord to the point of each step. `curve` has the same loop for any points: one for both
-// would need a promise about pairs of points that is longer than the loop.
+// would need a promise about pairs of points that is longer than the loop. It counts from 0 for the reason that stands there.
 #[tactic(auto, using(curve::proofs::Chords::walking))]
 pub fn length<C: FiniteSteps>(curve: C) -> f32
     ensures { result ≡ chords (C.point curve) C.STEPS }

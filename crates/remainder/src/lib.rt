@@ -1,5 +1,5 @@
-// The remainder of an angle by a whole turn, 360 degrees, worked out in whole numbers. `f32::rem_euclid` goes by the C library's `fmodf`, and
-// takes two thirds more time.
+// The remainder of an angle by a whole turn, 360 degrees, worked out in whole numbers. `%` on floats, and so `f32::rem_euclid`, calls the
+// C library's `fmodf`, and the archive needs no library.
 #![tactic(auto, using(crate::proofs::Ways::ways))]
 
 ghost use Rattle.std.specs.Prelude.{◌≡◌, ◌-◌, ◌*◌, ◌%◌, ◌^◌, ◌≤◌, ◌<◌};

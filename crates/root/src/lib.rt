@@ -11,8 +11,8 @@ ghost use Rattle.root.specs.Candidate.{IsCandidate, Sure, single_of};
 // A candidate for a root: a number of 24 digits in binary32's normal range, by its pattern in binary64.
 #[derive(Clone, Copy)]
 pub struct Candidate {
-    pattern: u64,
-    ghost normal: { IsCandidate pattern },
+    pub pattern: u64,
+    pub ghost normal: { IsCandidate pattern },
 }
 
 impl Candidate {
@@ -21,11 +21,12 @@ impl Candidate {
         Candidate::nearest(number(guess(number(n))))
     }
 
-    // The nearest to r where r is from 2^-63 to 2^64, and else some candidate.
+    // The nearest to r where r is from 2^-63 to 2^64, and else some candidate. That r is no NaN is a fact of one float, here and in
+    // `guess`: both take what a test or `number` has just answered, and a type between the two would only carry it.
     fn nearest(r: f64) -> Candidate
         requires { T (not (is_nan r)) }
     {
-        let u = (f64::to_bits(r) % 0x8000_0000_0000_0000 + 0x0400_0000_1000_0000)
+        let u = (r.to_bits() % 0x8000_0000_0000_0000 + 0x0400_0000_1000_0000)
             % 0x0800_0000_0000_0000;
         Candidate {
             pattern: 0x3c00_0000_0000_0000 + (u - u % 0x2000_0000),
@@ -51,7 +52,8 @@ impl Candidate {
     }
 }
 
-// r, or 0 in place of a NaN and of what is not above 0: one instruction, and no branch. An Option would have to be tested wherever the number is used.
+// r, or 0 in place of a NaN and of what is not above 0: one instruction, and no branch. An Option would have to be tested
+// wherever the number is used.
 fn number(r: f64) -> f64
     ensures { T (not (is_nan result)) }
 {
@@ -69,7 +71,7 @@ fn newton(h: f64, k: f64, y: f64) -> f64 {
 fn guess(n: f64) -> f64
     requires { T (not (is_nan n)) }
 {
-    let y = f64::from_bits(0x5fe6eb50c7b537a9 - f64::to_bits(n) % 0x8000_0000_0000_0000 / 2);
+    let y = f64::from_bits(0x5fe6eb50c7b537a9 - n.to_bits() % 0x8000_0000_0000_0000 / 2);
     let h = n * 0.5;
     newton(h * n, 1.5 * n, newton(h, 1.5000006, newton(h, 1.5008, y)))
 }
@@ -79,13 +81,12 @@ fn heron(n: f64, d: f64) -> f64 {
     0.5 * d + n * (0.5 / d)
 }
 
-// The sum of the squares in binary64, where each square is exact and the sum is rounded. There is none where x or y is a NaN,
-// which alone differs from itself: the library has no other test of a float for it.
+// The sum of the squares in binary64, where each square is exact and the sum is rounded. There is none where x or y is a NaN.
 #[tactic(auto, using(ieee::proofs::Wide::widens))]
 fn squares(x: f32, y: f32) -> Option<f64>
     ensures { IfSome result (λ n. n ≡ add binary64 (mul binary64 x x) (mul binary64 y y)) }
 {
-    if x != x || y != y {
+    if x.is_nan() || y.is_nan() {
         return None;
     }
     let a = x as f64;
@@ -100,7 +101,7 @@ fn settle(x: f32, y: f32, n: f64, r: f64) -> f32
     requires { n ≡ add binary64 (mul binary64 x x) (mul binary64 y y) }
     ensures { result ≡ hypot_of binary32 x y }
 {
-    if r == r {
+    if !r.is_nan() {
         let candidate = Candidate::nearest(r);
         if candidate.is_sure(n) {
             return candidate.single();
@@ -114,7 +115,7 @@ pub fn hypot(x: f32, y: f32) -> f32
     ensures { result ≡ hypot_of binary32 x y }
 {
     match squares(x, y) {
-        Some(n) if n == n => settle(x, y, n, guess(n)),
+        Some(n) if !n.is_nan() => settle(x, y, n, guess(n)),
         _ => whole_root::hypot_exact(x, y),
     }
 }
@@ -124,7 +125,7 @@ pub fn hypot_near(x: f32, y: f32, near: f32) -> f32
     ensures { result ≡ hypot_of binary32 x y }
 {
     match squares(x, y) {
-        Some(n) if near == near => settle(x, y, n, heron(n, near as f64)),
+        Some(n) if !near.is_nan() => settle(x, y, n, heron(n, near as f64)),
         _ => whole_root::hypot_exact(x, y),
     }
 }

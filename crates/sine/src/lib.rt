@@ -201,7 +201,7 @@ fn entry_at(k: usize) -> u32
 #[derive(Clone, Copy)]
 pub struct Turn {
     pub sixteenths: usize,
-    ghost reduced: { sixteenths < 5760 },
+    pub ghost reduced: { sixteenths < 5760 },
 }
 
 impl Turn {

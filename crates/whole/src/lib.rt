@@ -1,5 +1,5 @@
 // A float to a whole number: down, up, and to the nearest one. A result of zero keeps the sign.
-// The methods of `f32` say the same, by branches: they take twice the time of these.
+// The methods of `f32` say the same, by branches: they are slower than these.
 #![tactic(auto, using(crate::proofs::Ways::ways, crate::proofs::ShortWays::short_ways))]
 
 ghost use Rattle.std.specs.Prelude.{◌≡◌, ◌^◌, ◌≤◌, ◌<◌, not, cond, T};
@@ -52,7 +52,8 @@ fn step_if(needed: bool) -> f32
 }
 
 // The whole number nearest to a size below 2^23, half to even. From 2^23 to 2^24 the last digit of a
-// float is worth 1, so the sum rounds there, and the difference is exact.
+// float is worth 1, so the sum rounds there, and the difference is exact. `Small` is asked of a size in two functions and of a
+// float's size in two: types that carry it would be two, made in five places.
 fn even_size(a: f32) -> f32
     requires { Small a }
     ensures { result ≡ round_even binary32 a }
@@ -70,7 +71,8 @@ fn near_size(a: f32) -> f32
     r + step_if(r + 0.5 == a)
 }
 
-// x without its sign. With `float::abs`, which asks for a NaN and a zero, `round` takes a tenth more time.
+// x without its sign. With `float::abs`, which asks for a NaN and a zero, `round` is slower. That x is no NaN is asked here and in
+// `unit_of`, and follows in both from `Small`: a type for it would be made only to be handed to these two.
 fn size_of(x: f32) -> f32
     requires { T (not (is_nan x)) }
     ensures { result ≡ Sign.abs x }
@@ -79,7 +81,7 @@ fn size_of(x: f32) -> f32
 }
 
 // 1 with the sign of x. A product with it has no branch to guess, and keeps the sign of a zero: with `f32::signum` the
-// functions below take three times as long.
+// functions below are slower.
 fn unit_of(x: f32) -> f32
     requires { T (not (is_nan x)) }
     ensures { UnitOf x result }
@@ -105,7 +107,8 @@ fn floor_short(x: f32) -> f32
     r - step_if(r > x)
 }
 
-// Rust's f32::floor. It, `ceil` and `round` write the same test: the contract of a helper that takes the short way as a closure is longer.
+// Rust's f32::floor. It, `ceil` and `round` write the same test: the contract of a helper that takes the short way as a closure is
+// longer.
 pub fn floor(x: f32) -> f32
     ensures { result ≡ Whole.floor binary32 x }
 {

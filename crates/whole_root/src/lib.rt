@@ -10,7 +10,8 @@ ghost use Rattle.whole_root.specs.Steps.{halved, root_of_parts};
 
 use float::Parts;
 
-// A step of Newton's method towards 1 / √(2 h), of which nothing is promised. The step of `root` is no twin: it has the factor of its last step in it.
+// A step of Newton's method towards 1 / √(2 h), of which nothing is promised. The step of `root` is no twin: it has the factor of its
+// last step in it.
 fn newton(h: f64, y: f64) -> f64 {
     y * (1.5 - h * y * y)
 }
@@ -35,7 +36,8 @@ fn guess(t: u64) -> u64
     }
 }
 
-// The whole part of t's square root: the guess, moved until it is right. Nothing tells how often, so there is no range that a `for` could go over.
+// The whole part of t's square root: the guess, moved until it is right. Nothing tells how often, so there is no range that a `for`
+// could go over.
 fn root(t: u64) -> u64
     requires { t < 2 ^ 52 }
     ensures { result ≡ isqrt t }
@@ -51,7 +53,7 @@ fn root(t: u64) -> u64
 }
 
 // Half of a number to the nearest whole number, where s is the number's whole part and `rest` is 0 if
-// that is all of it.
+// that is all of it. `rest` is a number as in the definition `halved`: what is left in two places is added up, and the sum handed on.
 fn half(s: u64, rest: u64) -> u64
     requires { s < 2 ^ 25 }
     ensures { result ≡ halved s rest }
@@ -97,7 +99,8 @@ fn near(p: Parts, q: Parts) -> f32
     }
 }
 
-// The root of the sum of the squares of two numbers, of which the first drops no fewer digits: where it drops many more, it alone counts.
+// The root of the sum of the squares of two numbers, of which the first drops no fewer digits: where it drops many more, it alone
+// counts.
 fn of_parts(p: Parts, q: Parts) -> f32
     requires { q.drops ≤ p.drops }
     ensures { result ≡ root_of_parts p q }
