@@ -1,6 +1,8 @@
 // The functions that C calls: include/jengafir.h declares them. Each hands its numbers on.
 // The parameters are C's: a flag or a mode is a number, since any may come, and a list has a count beside it where the two
-// may disagree. Two bodies of one shape, as those of `jengafir_draw_path` and `jengafir_merge`, have two of C's names.
+// may disagree. Those that draw or tell a need are one call each, of functions that take other parameters, and `command::tell_size`.
+// What tells ranges stands in both trims, and what tells a count in both copies: two or three lines each, and a function of them
+// would have a contract as long.
 #![tactic(auto)]
 
 ghost use Rattle.std.specs.Prelude.{◌≡◌, length};

@@ -141,21 +141,11 @@ impl fmt::Display for Codes<'_> {
     }
 }
 
-// Two counts, with a blank between them.
+// Two things with a blank between them: two counts, or a word and what it names.
 #[derive(Clone, Copy)]
-pub struct Pair(pub usize, pub usize);
+pub struct Pair<A, B>(pub A, pub B);
 
-impl fmt::Display for Pair {
-    fn fmt<W: fmt::Write>(&self, f: &mut fmt::Formatter<W>) -> fmt::Result {
-        write!(f, "{} {}", self.0, self.1)
-    }
-}
-
-// A value after a word that says what it is.
-#[derive(Clone, Copy)]
-pub struct Named<'a, T>(pub &'a str, pub T);
-
-impl<T: fmt::Display> fmt::Display for Named<'_, T> {
+impl<A: fmt::Display, B: fmt::Display> fmt::Display for Pair<A, B> {
     fn fmt<W: fmt::Write>(&self, f: &mut fmt::Formatter<W>) -> fmt::Result {
         write!(f, "{} {}", self.0, self.1)
     }
@@ -175,8 +165,8 @@ impl<T: fmt::Display> fmt::Display for Answer<T> {
 }
 
 // The answer of a call that fills two buffers, without what they hold.
-fn named_size(word: &str, size: Outcome<Size>) -> Answer<Named<'_, Pair>> {
-    Answer(size.map(|size| Named(word, Pair(size.codes, size.numbers))))
+fn named_size(word: &str, size: Outcome<Size>) -> Answer<Pair<&str, Pair<usize, usize>>> {
+    Answer(size.map(|size| Pair(word, Pair(size.codes, size.numbers))))
 }
 
 // What a call that fills two buffers needs of them.
@@ -206,6 +196,7 @@ impl fmt::Display for Drawn<'_> {
 }
 
 // Prints each line of the input and what parts it from its answer, and lets `answer` print on.
+// Each program is a crate with a `main` of its own, which is one call of this, and an `answer` that names the calls by its own words.
 // Where to print and the call stay two parameters: what reads a call and prints nothing gets the call alone.
 pub fn run<R: Input + Print + AllocGlobal, F: FnMut(&R, Call<'_>) -> io::Result<()>>(
     rt: &R,

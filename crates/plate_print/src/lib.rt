@@ -59,11 +59,9 @@ impl Text<'_> {
         requires { (0 < width) × HasRoom self.old width }
         ensures { Appended self.old self.new (column width value) }
     {
-        let at = self.at;
-        let last = at + (width - 1);
-        let out = &mut *self.out;
-        put_leading(out, at, width - 1, value / 10);
-        out[last] = digit(value);
+        let last = self.at + (width - 1);
+        put_leading(self.out, self.at, width - 1, value / 10);
+        self.out[last] = digit(value);
         self.at = last + 1;
     }
 
@@ -82,13 +80,12 @@ impl Text<'_> {
         requires { HasRoom self.old 1 }
         ensures { Appended self.old self.new (10 ∷ []) }
     {
-        let at = self.at;
-        let out = &mut *self.out;
-        out[at] = b'\n';
-        self.at = at + 1;
+        self.out[self.at] = b'\n';
+        self.at += 1;
     }
 
-    // A line of a code and the bits of numbers.
+    // A line of a code and the bits of numbers. A plate's lines begin with a number: a command's code, or 8 or 9, which are no
+    // command's code.
     #[tactic(auto, using(crate::proofs::Ways::writing), unfolding(crate::specs::Lines::numbers_line, crate::specs::Lines::line))]
     fn put_numbers_line(&mut self, code: u8, numbers: &[f32])
         requires { HasRoom self.old (3 + 11 * length numbers.now) }
@@ -99,7 +96,8 @@ impl Text<'_> {
         self.put_newline();
     }
 
-    // A line of a code and one number, which is no float: a function of three lines, and no plainer with a closure for the bits.
+    // A line of 8 or 9, which are no command's code, and one number, which is no float: a function of three lines, and no plainer
+    // with a closure for the bits.
     #[tactic(auto, using(crate::proofs::Ways::writing), unfolding(crate::specs::Lines::line, crate::specs::Lines::columns))]
     fn put_line(&mut self, code: u32, value: u32)
         requires { HasRoom self.old 14 }
@@ -110,10 +108,10 @@ impl Text<'_> {
         self.put_newline();
     }
 
-    // A line for each command.
+    // A line for each command. Codes and numbers are two parameters for the reason at `judge::judge`.
     #[tactic(auto, using(crate::proofs::Ways::commanding), unfolding(crate::specs::Lines::list_lines, judge::specs::Lists::place_of))]
     fn put_commands(&mut self, codes: &[u8], numbers: &[f32])
-        requires codes_in_bounds { place_of (length codes.now) codes.now ≤ length numbers.now }
+        requires listed { place_of (length codes.now) codes.now ≤ length numbers.now }
         requires room { HasRoom self.old (69 * length codes.now) }
         ensures { Appended self.old self.new (list_lines codes.now numbers.now) }
     {
@@ -130,21 +128,22 @@ impl Text<'_> {
 #[tactic(auto, using(crate::proofs::Ways::writing), unfolding(crate::specs::Lines::refusal_text))]
 pub fn print_refusal(refusal: Refusal, out: &mut [u8]) -> usize
     requires { 14 ≤ length out.old }
-    ensures value { result ≡ length (refusal_text refusal) }
-    ensures out_after { out.new ≡ onto (refusal_text refusal) out.old }
+    ensures told { result ≡ length (refusal_text refusal) }
+    ensures printed { out.new ≡ onto (refusal_text refusal) out.old }
 {
     let mut text = Text { out, at: 0 };
     text.put_line(8, u32::from(refusal));
     text.at
 }
 
-// Prints commands and the path's length from the start of a buffer, and gives the text's length. A line has at most 69 bytes, the last one 14.
+// Prints commands and the path's length from the start of a buffer, and gives the text's length. A line has at most 69 bytes,
+// the last one 14. Codes and numbers are two parameters for the reason at `judge::judge`.
 #[tactic(auto, using(crate::proofs::Ways::writing), unfolding(crate::specs::Lines::list_text, crate::specs::Lines::numbers_line))]
 pub fn print_answer(codes: &[u8], numbers: &[f32], total: f32, out: &mut [u8]) -> usize
-    requires codes_in_bounds { place_of (length codes.now) codes.now ≤ length numbers.now }
-    requires codes_in_bounds_2 { 69 * length codes.now + 14 ≤ length out.old }
-    ensures value { result ≡ length (list_text codes.now numbers.now total) }
-    ensures out_after { out.new ≡ onto (list_text codes.now numbers.now total) out.old }
+    requires listed { place_of (length codes.now) codes.now ≤ length numbers.now }
+    requires room { 69 * length codes.now + 14 ≤ length out.old }
+    ensures told { result ≡ length (list_text codes.now numbers.now total) }
+    ensures printed { out.new ≡ onto (list_text codes.now numbers.now total) out.old }
 {
     let mut text = Text { out, at: 0 };
     text.put_commands(codes, numbers);

@@ -8,7 +8,6 @@ use native.Mathlib.Omega.{arith}
 use lib.Ieee.{Float, of_bits, binary32}
 use lib.ListN.{length, get_or, take, drop, length-append, length-drop, length-map}
 use denote.Param.Members.{Mut}
-use borrow.Rule.Slice.PartMut.{put_mid}
 use lib.Seq.{sets, length-sets, take_all, take-append_seam, drop-append_seam}
 use Rattle.std.proofs.Math.ListN.{get_or-map}
 use Rattle.std.proofs.Common.{append_assoc}
@@ -18,7 +17,7 @@ use Rattle.std.specs.Fn.{Called}
 use Rattle.std.specs.Prelude.{Some, None, Result, Ok, Err}
 use Rattle.command.specs.declared.Refusal.{Refusal}
 use Rattle.command.specs.declared.Refusal.TheVariants.{TooMany, Unlisted}
-use Rattle.command.proofs.Buffers.{sets_append, sets_onto, copied_is}
+use Rattle.command.proofs.Buffers.{sets_append, sets_onto}
 use Rattle.plate_read.specs.declared.Reading.{Reading}
 use Rattle.plate_read.specs.Text.{field_value, line_form, line_values, Content, faulty, given, before, read_lines, reading_of}
 use Rattle.plate_read.specs.Fields.{line_patterns}
@@ -93,16 +92,13 @@ module _ (flag : ℕ) (lines : List ℕ) (l₀ : List Float) where
       one : 256 - count ≡ suc (256 - (count + 1))
       one = let b = w.bound in omega arith
 
-      fill_place : 6 * count + 6 ≤ 1536
-      fill_place = let b = w.bound in omega arith
-
       pub fill_bad : None ≡ line_patterns 6 line → Err Unlisted ≡ reading_of (read_lines flag 256 lines)
       unfolding before reading_of
       fill_bad n =
           let f = patterns_bad 6 text (n ∙ piece_patterns text line rest cut size) in
           ap reading_of (sym (w.left ∙ ap (before w.patterns) (ap (λ (k : ℕ). read_lines flag k text) one ∙ lines_broken flag (256 - (count + 1)) text h f)))
 
-      fill_next : (ps : List ℕ) (l' : List Float) → Some ps ≡ line_patterns 6 line → l' ≡ sets l (6 * count) (floats ps) → Filling flag lines rest l₀ l' (count + 1)
+      pub fill_next : (ps : List ℕ) (l' : List Float) → Some ps ≡ line_patterns 6 line → l' ≡ sets l (6 * count) (floats ps) → Filling flag lines rest l₀ l' (count + 1)
       fill_next ps l' p l'_is =
           let g = patterns_form 6 text ps (p ∙ piece_patterns text line rest cut size) in
           let ps_six : length ps ≡ 6 = ap length g.1 ∙ values_length 6 text in
@@ -128,14 +124,6 @@ module _ (flag : ℕ) (lines : List ℕ) (l₀ : List Float) where
                 ∙ sym (sets_append (floats w.patterns) (floats ps) l₀ 0)
                 ∙ ap (sets l₀ 0) (sym (map-append (of_bits binary32) w.patterns ps));
           }
-
-      pub fill_copied : (ps : List ℕ) (k : ℕ) (vs : List Float) → length l₀ ≡ 1536 → Some ps ≡ line_patterns 6 line → vs ≡ floats ps → k ≡ 6 → Filling flag lines rest l₀ (put_mid (6 * count) k l vs) (count + 1)
-      fill_copied ps k vs room p vs_is k_is =
-          let g = patterns_form 6 text ps (p ∙ piece_patterns text line rest cut size) in
-          let s = w.same in
-          let place = fill_place in
-          let six : length vs ≡ 6 = ap length vs_is ∙ length-map ps (of_bits binary32) ∙ ap length g.1 ∙ values_length 6 text in
-          fill_next ps (put_mid (6 * count) k l vs) p (copied_is l vs (6 * count) k (omega arith) (omega arith) ∙ ap (sets l (6 * count)) vs_is)
 
 -- ---- lines after the last that is read
 module _ (flag n : ℕ) (t : List ℕ) where

@@ -6,7 +6,7 @@ ghost use Rattle.command.specs.Buffers.{onto};
 ghost use Rattle.plate_read.specs.Text.{most_vertices, read_lines, read_text, reading_of, numbers_given};
 ghost use Rattle.plate_read.specs.Fields.{pattern_after, field_pattern, line_patterns};
 
-use command::Refusal;
+use command::{Outcome, Refusal};
 use std::num::f32_from_bits_with_nan;
 
 // What a text in form gives: the closed flag, and how many vertices there are.
@@ -18,6 +18,7 @@ pub struct Reading {
 }
 
 // The value of digits, if they are digits and it is a pattern of 32 bits.
+// By hand: std's `u32::from_str_radix` takes a `&str`, where these are any bytes, and a `+` before the digits.
 #[tactic(auto, using(crate::proofs::Fields::values))]
 fn digits_value(digits: &[u8]) -> Option<u32>
     ensures { result ≡ pattern_after 0 digits.now }
@@ -69,10 +70,11 @@ fn line_values<const N: usize>(text: &[u8]) -> Option<[u32; N]>
 
 // Reads the vertex lines, and writes six numbers for each of them from the start of a list.
 // After a refusal the list may hold the numbers of the lines before.
+// The lines are counted by hand, since after the loop the count is handed back: `enumerate` would have it in the loop alone.
 #[tactic(auto, using(crate::proofs::Fills::fills), unfolding(crate::specs::Text::before, crate::specs::Text::reading_of, crate::specs::Text::numbers_given))]
-fn read_lines(lines: &[u8], closed: u32, numbers: &mut [f32; 1536]) -> Result<Reading, Refusal>
-    ensures value { result ≡ reading_of (read_lines closed most_vertices lines.now) }
-    ensures numbers_after { IfOk result (λ r. numbers.new ≡ onto (numbers_given (read_lines closed most_vertices lines.now)) numbers.old) }
+fn read_lines(lines: &[u8], closed: u32, numbers: &mut [f32; 1536]) -> Outcome<Reading>
+    ensures told { result ≡ reading_of (read_lines closed most_vertices lines.now) }
+    ensures written { IfOk result (λ r. numbers.new ≡ onto (numbers_given (read_lines closed most_vertices lines.now)) numbers.old) }
 {
     let mut count = 0;
     for line in lines.chunks(67) {
@@ -81,7 +83,7 @@ fn read_lines(lines: &[u8], closed: u32, numbers: &mut [f32; 1536]) -> Result<Re
         }
         let patterns = line_values::<6>(line).ok_or(Refusal::Unlisted)?;
         let vertex = patterns.map(|pattern| f32_from_bits_with_nan(pattern));
-        numbers[6 * count..6 * count + 6].copy_from_slice(&vertex);
+        command::put(numbers, 6 * count, vertex);
         count += 1;
     }
     Ok(Reading { closed, count })
@@ -90,9 +92,9 @@ fn read_lines(lines: &[u8], closed: u32, numbers: &mut [f32; 1536]) -> Result<Re
 // Reads a text, and writes the six numbers of each vertex from the start of `vertices`.
 // A refusal writes nothing. A vertex is six numbers of one flat list, as C hands vertices over.
 #[tactic(auto, using(crate::proofs::Fills::readings), unfolding(crate::specs::Text::read_text, crate::specs::Text::reading_of, crate::specs::Text::numbers_given, crate::specs::Fields::line_patterns))]
-pub fn read(text: &[u8], vertices: &mut [f32; 1536]) -> Result<Reading, Refusal>
-    ensures value { result ≡ reading_of (read_text text.now) }
-    ensures vertices_after { vertices.new ≡ onto (numbers_given (read_text text.now)) vertices.old }
+pub fn read(text: &[u8], vertices: &mut [f32; 1536]) -> Outcome<Reading>
+    ensures told { result ≡ reading_of (read_text text.now) }
+    ensures written { vertices.new ≡ onto (numbers_given (read_text text.now)) vertices.old }
 {
     let [closed] = line_values::<1>(text).ok_or(Refusal::Unlisted)?;
     let mut numbers = *vertices;

@@ -9,7 +9,8 @@ use command::{Outcome, Size};
 use pattern_text::{Call, Drawn, Needed};
 use std::io;
 
-// A path or an item, by a call's word.
+// A path or an item, by a call's word. It is asked in three places: an enum that the line is read to would be matched in the
+// same three.
 fn is_item(call: Call<'_>) -> bool {
     call.word == "item" || call.word == "need-item"
 }
@@ -59,6 +60,7 @@ fn draw(rt: &impl Print, call: Call<'_>) -> io::Result<()> {
 }
 
 // The need of a drawing of the first places of a list, so many as the line says.
+// It shares with `draw` that a list is filled and lent, each a call of `Call`, and fills it from another place of the line.
 fn need_of(call: Call<'_>) -> Outcome<Size> {
     let place = lengths_place(call);
     let mut list = [0.0; 6150];

@@ -3,22 +3,22 @@
 // tools/length_vectors.py makes the lines and says how they read.
 #![tactic(auto)]
 
-use pattern_text::{Answer, Bits, Call, Floats, Named, Pair};
+use pattern_text::{Answer, Bits, Call, Floats, Pair};
 use std::io;
 
-fn length_of(codes: &[u8], numbers: &[f32]) -> Answer<Named<'static, Bits>> {
+fn length_of(codes: &[u8], numbers: &[f32]) -> Answer<Pair<&'static str, Bits>> {
     let length = length::path_length(codes, numbers);
-    Answer(length.map(|length| Named("length", Bits(length))))
+    Answer(length.map(|length| Pair("length", Bits(length))))
 }
 
-fn reached_of(codes: &[u8], numbers: &[f32], least: f32) -> Answer<Named<'static, usize>> {
+fn reached_of(codes: &[u8], numbers: &[f32], least: f32) -> Answer<Pair<&'static str, usize>> {
     let reached = reach::length_reaches(codes, numbers, least);
-    Answer(reached.map(|(yes, read)| Named(if yes { "yes" } else { "no" }, read)))
+    Answer(reached.map(|(yes, read)| Pair(if yes { "yes" } else { "no" }, read)))
 }
 
-fn place_of(codes: &[u8], numbers: &[f32], k: usize) -> Answer<Named<'static, Pair>> {
+fn place_of(codes: &[u8], numbers: &[f32], k: usize) -> Answer<Pair<&'static str, Pair<usize, usize>>> {
     let found = judge::find_command(codes, numbers, k);
-    Answer(found.map(|(start, count)| Named("numbers", Pair(start, count))))
+    Answer(found.map(|(start, count)| Pair("numbers", Pair(start, count))))
 }
 
 // Answers with where a command's numbers stand, and below it the number that is handed back beside the part, how many

@@ -62,6 +62,7 @@ fn merge(rt: &impl Print, call: Call<'_>) -> io::Result<()> {
 }
 
 // The need of a merge of the first places of two lists, so many as the line says.
+// It shares with `merge` that two lists are filled and lent, each a call, and fills the second from another place of the line.
 fn need_of(call: Call<'_>) -> Outcome<Size> {
     let place = given(call) + 5;
     let mut rows = [0; 1548];

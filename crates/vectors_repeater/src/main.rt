@@ -2,7 +2,7 @@
 // tools/repeater_vectors.py makes the lines and says how they read.
 #![tactic(auto)]
 
-use pattern_text::{Answer, Call, Floats, Named};
+use pattern_text::{Answer, Call, Floats, Pair};
 use repeater::RepeaterStyle;
 use std::io;
 use std::num::f32_from_bits_with_nan;
@@ -15,11 +15,12 @@ fn repeater_at(call: Call<'_>, first: usize) -> RepeaterStyle {
 }
 
 // Answers with an order in the first places of a list, so many as the line says, and writes what they then hold.
+// The places are printed by a loop: a third list beside `Floats` and `Codes`, but one that is printed here alone.
 fn answer_order(rt: &impl Print, call: Call<'_>) -> io::Result<()> {
     let mut order = [0xeeee_eeee; 4100];
     let order = &mut order[..call.lent(1, 4100)];
     let written = copies::copy_order(repeater_at(call, 2), order);
-    println!(rt; "{}", Answer(written.map(|n| Named("written", n))))?;
+    println!(rt; "{}", Answer(written.map(|n| Pair("written", n))))?;
     print!(rt; "places")?;
     for copy in order {
         print!(rt; " {copy:08x}")?;
@@ -32,7 +33,7 @@ fn answer_copy(rt: &impl Print, call: Call<'_>) -> io::Result<()> {
     let mut numbers = [-77.25; 16];
     let numbers = &mut numbers[..call.lent(2, 16)];
     let written = copies::copy_transform(repeater_at(call, 3), call.size(1), numbers);
-    println!(rt; "{}", Answer(written.map(|n| Named("written", n))))?;
+    println!(rt; "{}", Answer(written.map(|n| Pair("written", n))))?;
     println!(rt; "places{}", Floats(numbers))
 }
 

@@ -45,6 +45,7 @@ impl fmt::Display for Shown {
     }
 }
 
+// The two that fill a buffer stay two: what puts the numbers down is another function of another type in each.
 fn shown_ranges(ranges: Ranges) -> Shown {
     let mut buffer = [-77.25; 8];
     cut::put_ranges(ranges, &mut buffer);

@@ -6,9 +6,9 @@ use Rattle.plate_text.proofs.print_drawn.Goals as goal
 pub returns-in-Err : goal.returns-in-Err
 returns-in-Err c =
     let e = refusal_drawn _ _ _ _ _ _ _ _ c.draw_path.ensures c.requires.0 (search rules) (search rules) _ c.in-Err.is in
-    record { value = search rules; out_after = search rules }
+    record { told = search rules; printed = search rules }
 
 pub returns-in-Ok : goal.returns-in-Ok
 returns-in-Ok c =
     let e = measured_drawn _ _ _ _ _ _ _ _ c.draw_path.ensures c.requires.0 (search rules) (search rules) _ _ c.in-Ok.is in
-    record { value = search rules; out_after = search rules }
+    record { told = search rules; printed = search rules }
