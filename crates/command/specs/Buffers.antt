@@ -53,8 +53,17 @@ pub record Filled {A : Type 0} (o : Outcome (List A)) (number count : ℕ) (buff
   pub count_is : count ≡ length (list_of o)
   pub content_is : buffer' ≡ onto (list_of o) buffer
 
+-- The promise of a function whose answer is put in a buffer if it fits, and which gives how much that is.
+abbrev pub FilledWith : {A : Type 0} → Outcome (List A) → Outcome ℕ → List A → List A → Type 0
+FilledWith o result buffer buffer' = Filled (fitted (in_buffer (length buffer)) o) (number_of result) (value_or 0 result) buffer buffer'
+
 -- The promise of a call that draws: one buffer is filled with the codes and one with the numbers.
 pub record FilledBoth (o : Outcome (List PathCommand)) (number codes_count numbers_count : ℕ) (codes codes' : List ℕ) (numbers numbers' : List Float)
     : Type 0 where
   pub codes_filled : Filled (mapped codes_of o) number codes_count codes codes'
   pub numbers_filled : Filled (mapped numbers_of o) number numbers_count numbers numbers'
+
+-- The promise of a function that draws into both if what is drawn fits them, and gives its size.
+abbrev pub DrawnInto : Outcome (List PathCommand) → Outcome Size → List ℕ → List ℕ → List Float → List Float → Type 0
+DrawnInto o result codes codes' numbers numbers' =
+    FilledBoth (fitted (in_buffers (length codes) (length numbers)) o) (number_of result) (codes_told result) (numbers_told result) codes codes' numbers numbers'

@@ -5,8 +5,8 @@ ghost use Rattle.std.specs.Prelude.{◌≡◌, not, [], ◌∷◌, ◌≤◌, �
 ghost use Rattle.std.proofs.lemmas.List.Edits.{sets};
 ghost use Rattle.ieee.specs.Limit.{all_within};
 ghost use Rattle.command.specs.declared.Refusal.TheVariants.{NotFinite};
-ghost use Rattle.command.specs.Outcomes.{number_of, value_or, ◌gives◌, checked, AllPass};
-ghost use Rattle.command.specs.Buffers.{fitted, in_buffer, Filled};
+ghost use Rattle.command.specs.Outcomes.{◌gives◌, checked, AllPass};
+ghost use Rattle.command.specs.Buffers.{FilledWith};
 ghost use Rattle.copies.specs.Order.{order_of};
 ghost use Rattle.copies.specs.Calls as spec;
 
@@ -85,7 +85,8 @@ pub fn check_repeater(repeater: RepeaterStyle) -> Outcome<()>
 // The order in which copies are drawn.
 #[derive(Clone, Copy)]
 struct Order {
-    // In mode 1 from the first on. Any other number is a mode too, from the last on, so a mode is no enum.
+    // In mode 1 from the first on, with any other number from the last on. It stays the number that C lends and `order_of` of specs/
+    // takes, since only `mode == 1` is asked of it.
     mode: u8,
     // How many there are.
     count: u32,
@@ -112,6 +113,7 @@ impl Order {
         requires { self.count ≤ length order.old }
         ensures { order.new ≡ sets order.old 0 (order_of self.mode self.count) }
     {
+        // By the place, which `copy_at` takes: over the list's own places (`iter_mut` with `zip`) the proof did not close at once.
         for place in 0..self.count {
             order[place as usize] = self.copy_at(place);
         }
@@ -120,9 +122,7 @@ impl Order {
     // Puts it down if it fits.
     #[tactic(auto, using(command::proofs::Buffers::sets_onto, crate::proofs::Ways::order_length), unfolding(command::specs::Buffers::fitted))]
     fn write(self, order: &mut [u32]) -> Outcome<usize>
-        ensures { Filled
-            (fitted (in_buffer (length order.old)) (Ok (order_of self.mode self.count)))
-            (number_of result) (value_or 0 result) order.old order.new }
+        ensures { FilledWith (Ok (order_of self.mode self.count)) result order.old order.new }
     {
         let count = self.count as usize;
         if count <= order.len() {
@@ -137,9 +137,7 @@ impl Order {
 // The order of a repeater's copies.
 #[tactic(auto, using(crate::proofs::Ways::orders), unfolding(command::specs::Buffers::fitted))]
 pub fn copy_order(repeater: RepeaterStyle, order: &mut [u32]) -> Outcome<usize>
-    ensures { Filled
-        (fitted (in_buffer (length order.old)) (spec.order_answer repeater))
-        (number_of result) (value_or 0 result) order.old order.new }
+    ensures { FilledWith (spec.order_answer repeater) result order.old order.new }
 {
     check_repeater(repeater)?;
     let count = repeater.copy_count() as u32;
@@ -157,10 +155,7 @@ fn are_finite(numbers: &[f32]) -> bool
 // The numbers of a copy, if they are finite and fit.
 #[tactic(auto, unfolding(command::specs::Buffers::fitted))]
 fn write_copy(numbers: &[f32; 7], matrix: &mut [f32]) -> Outcome<usize>
-    ensures { Filled
-        (fitted (in_buffer (length matrix.old))
-        (checked ((not (spec.all_finite numbers.now) gives NotFinite) ∷ []) (Ok numbers.now)))
-        (number_of result) (value_or 0 result) matrix.old matrix.new }
+    ensures { FilledWith (checked ((not (spec.all_finite numbers.now) gives NotFinite) ∷ []) (Ok numbers.now)) result matrix.old matrix.new }
 {
     if !are_finite(numbers) {
         return Err(Refusal::NotFinite);
@@ -176,9 +171,7 @@ fn write_copy(numbers: &[f32; 7], matrix: &mut [f32]) -> Outcome<usize>
 #[tactic(auto, using(crate::proofs::Ways::sounds), unfolding(command::specs::Buffers::fitted, crate::specs::Calls::copy_answer, crate::specs::Calls::copy_numbers))]
 fn write_sound(repeater: RepeaterStyle, copy: usize, matrix: &mut [f32]) -> Outcome<usize>
     requires { AllPass (spec.repeater_checks repeater) }
-    ensures { Filled
-        (fitted (in_buffer (length matrix.old)) (spec.copy_answer repeater copy))
-        (number_of result) (value_or 0 result) matrix.old matrix.new }
+    ensures { FilledWith (spec.copy_answer repeater copy) result matrix.old matrix.new }
 {
     let k = copy as u64;
     if k >= repeater.copy_count() {
@@ -192,9 +185,7 @@ fn write_sound(repeater: RepeaterStyle, copy: usize, matrix: &mut [f32]) -> Outc
 // The numbers of one copy.
 #[tactic(auto, using(crate::proofs::Ways::transforms), unfolding(command::specs::Buffers::fitted))]
 pub fn copy_transform(repeater: RepeaterStyle, copy: usize, matrix: &mut [f32]) -> Outcome<usize>
-    ensures { Filled
-        (fitted (in_buffer (length matrix.old)) (spec.transform_answer repeater copy))
-        (number_of result) (value_or 0 result) matrix.old matrix.new }
+    ensures { FilledWith (spec.transform_answer repeater copy) result matrix.old matrix.new }
 {
     check_repeater(repeater)?;
     write_sound(repeater, copy, matrix)

@@ -48,7 +48,8 @@ pub fn trim_ranges(trim: TrimStyle) -> Outcome<Ranges>
     }
 }
 
-// A trim of a path of so much length: the length with the ranges.
+// A trim of a path of so much length: the length with the ranges. They stay a pair, here and where they go: both are named there at once
+// (crates/jengafir), and `cut_measured` of specs/ answers with a pair.
 #[tactic(auto, unfolding(crate::specs::Calls::cut_measured))]
 fn trim_measured(trim: TrimStyle, total: f32) -> Outcome<(f32, Ranges)>
     ensures { result ≡ cut_measured trim total }
@@ -117,8 +118,7 @@ fn put_cut(cuts: Cuts, buffer: &mut [f32], at: usize)
     requires { at + 3 ≤ length buffer.old }
     ensures { buffer.new ≡ sets buffer.old at (cut_numbers cuts) }
 {
-    let last = command::put(buffer, at, [cuts.before, cuts.visible]);
-    buffer[last] = cuts.after;
+    command::put(buffer, at, [cuts.before, cuts.visible, cuts.after]);
 }
 
 // Puts the cut lengths of ranges down.

@@ -2,8 +2,8 @@
 #![tactic(auto)]
 
 ghost use Rattle.std.specs.Prelude.{◌≡◌, ◌+◌, ◌≤◌, length, drop, false};
-ghost use Rattle.command.specs.Outcomes.{checked, mapped, number_of};
-ghost use Rattle.command.specs.Buffers.{in_buffers, fitted, codes_told, numbers_told, FilledBoth};
+ghost use Rattle.command.specs.Outcomes.{checked, mapped};
+ghost use Rattle.command.specs.Buffers.{DrawnInto};
 ghost use Rattle.item.specs.Rows.{item_row, entries_of};
 ghost use Rattle.shape.specs.Drawings.{commands_of};
 ghost use Rattle.draw.specs.Paths.{path_checks, draw_path};
@@ -62,7 +62,8 @@ fn is_held_back(row: ItemRow) -> bool
 }
 
 // What a row whose numbers are there and within the limit says is to be drawn, or why it cannot be. A row and the list of all rows'
-// numbers stay two parameters, here and below: a call has many rows beside one list, and a pair made for each would say no more.
+// numbers are no one value, here and below: what hands such a one on is not inlined (docs/DECISIONS.md, Speed, 12), and it could
+// not hold the three facts asked for here, which only a checked row has.
 #[tactic(auto, using(crate::proofs::Ways::kinds), unfolding(crate::specs::Items::shape_drawn, crate::specs::Items::item_shape))]
 pub fn shape_of<'a>(row: ItemRow, items: &'a [f32]) -> Outcome<Drawing<'a>>
     requires { (has_no_vertices row ≡ false) × (row.count ≤ 1024) × (row.place + entries_of row ≤ length items.now) }
@@ -122,6 +123,8 @@ pub fn check_row(row: &[u32]) -> Outcome<ItemRow>
 }
 
 // Draws the first `count` vertices of a list, each of six numbers, into two buffers: the flag, the list and the buffers as C lends them.
+// `need::path_need` makes the same drawing, and `need::source_need` that of `draw_source`, each after the same checks: one function
+// that hands a drawing on is not inlined (docs/DECISIONS.md, Speed, 12).
 #[tactic(auto, using(crate::proofs::Ways::path_ready, command::proofs::Verdicts::behind_value), unfolding(crate::specs::Paths::draw_path, shape::specs::Shape::shape_commands))]
 pub fn draw_path(
     closed: u32,
@@ -130,10 +133,7 @@ pub fn draw_path(
     codes: &mut [u8],
     numbers: &mut [f32],
 ) -> Outcome<Size>
-    ensures { FilledBoth
-        (fitted (in_buffers (length codes.old) (length numbers.old)) (draw_path closed vertices.now count))
-        (number_of result) (codes_told result) (numbers_told result)
-        codes.old codes.new numbers.old numbers.new }
+    ensures { DrawnInto (draw_path closed vertices.now count) result codes.old codes.new numbers.old numbers.new }
 {
     check_path(closed, vertices, count)?;
     let drawing = Drawing {
@@ -146,10 +146,7 @@ pub fn draw_path(
 // Draws a row with listed entries into two buffers.
 #[tactic(auto, using(crate::proofs::Ways::behind_checks, crate::proofs::Ways::source_made))]
 fn draw_source(row: ItemRow, items: &[f32], codes: &mut [u8], numbers: &mut [f32]) -> Outcome<Size>
-    ensures { FilledBoth
-        (fitted (in_buffers (length codes.old) (length numbers.old)) (draw_source row items.now))
-        (number_of result) (codes_told result) (numbers_told result)
-        codes.old codes.new numbers.old numbers.new }
+    ensures { DrawnInto (draw_source row items.now) result codes.old codes.new numbers.old numbers.new }
 {
     check_source(row, items)?;
     let drawing = shape_of(row, items)?;
@@ -159,10 +156,7 @@ fn draw_source(row: ItemRow, items: &[f32], codes: &mut [u8], numbers: &mut [f32
 // Draws one item row into two buffers.
 #[tactic(auto, using(crate::proofs::Ways::item_drawn))]
 pub fn draw_item(row: &[u32], items: &[f32], codes: &mut [u8], numbers: &mut [f32]) -> Outcome<Size>
-    ensures { FilledBoth
-        (fitted (in_buffers (length codes.old) (length numbers.old)) (draw_item row.now items.now))
-        (number_of result) (codes_told result) (numbers_told result)
-        codes.old codes.new numbers.old numbers.new }
+    ensures { DrawnInto (draw_item row.now items.now) result codes.old codes.new numbers.old numbers.new }
 {
     let row = check_row(row)?;
     draw_source(row, items, codes, numbers)

@@ -36,7 +36,8 @@ pub enum Kind {
     Merge,
     // Any other item of Lottie's.
     Other,
-    // A number that stands for no kind: a row is read before it is judged.
+    // A number that stands for no kind: a row is read before it is judged. It is a case and no `Option<Kind>`, in which each definition
+    // on kinds would name the `Some` around the others.
     Unlisted,
 }
 

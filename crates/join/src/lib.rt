@@ -2,8 +2,8 @@
 #![tactic(auto)]
 
 ghost use Rattle.std.specs.Prelude.{◌≡◌, true, ◌≤◌, length, map};
-ghost use Rattle.command.specs.Outcomes.{list_of, mapped, number_of};
-ghost use Rattle.command.specs.Buffers.{in_buffers, fitted, pair_of, codes_told, numbers_told, FilledBoth, need_of};
+ghost use Rattle.command.specs.Outcomes.{list_of, mapped};
+ghost use Rattle.command.specs.Buffers.{pair_of, DrawnInto, need_of};
 ghost use Rattle.sheet.specs.Sheets.{HasRoom, Wrote};
 ghost use Rattle.item.specs.Rows.{row_of};
 ghost use Rattle.join.specs.Merge.{draw_merge};
@@ -21,10 +21,7 @@ fn row_need(row: ItemRow, items: &[f32]) -> Outcome<Size>
     if merge::is_source(row) {
         need::source_need(row, items)
     } else {
-        Ok(Size {
-            codes: 0,
-            numbers: 0,
-        })
+        Ok(Size::default())
     }
 }
 
@@ -79,19 +76,13 @@ fn join_rows(
     numbers: &mut [f32],
 ) -> Outcome<Size>
     requires { length rows.now ≤ 256 }
-    ensures { FilledBoth
-        (fitted (in_buffers (length codes.old) (length numbers.old)) (draw_rows (map row_of rows.now) items.now))
-        (number_of result) (codes_told result) (numbers_told result)
-        codes.old codes.new numbers.old numbers.new }
+    ensures { DrawnInto (draw_rows (map row_of rows.now) items.now) result codes.old codes.new numbers.old numbers.new }
 {
     let need = rows_need(rows, items)?;
     if need.codes > codes.len() || need.numbers > numbers.len() {
         return Err(Refusal::BufferTooSmall);
     }
-    let at = Size {
-        codes: 0,
-        numbers: 0,
-    };
+    let at = Size::default();
     let mut sheet = Sheet { codes, numbers, at };
     write_rows(rows, items, &mut sheet);
     Ok(need)
@@ -107,10 +98,7 @@ pub fn draw_merge(
     codes: &mut [u8],
     numbers: &mut [f32],
 ) -> Outcome<Size>
-    ensures { FilledBoth
-        (fitted (in_buffers (length codes.old) (length numbers.old)) (draw_merge rows.now n items.now))
-        (number_of result) (codes_told result) (numbers_told result)
-        codes.old codes.new numbers.old numbers.new }
+    ensures { DrawnInto (draw_merge rows.now n items.now) result codes.old codes.new numbers.old numbers.new }
 {
     let before = merge::decide(rows, n)?;
     join_rows(before, items, codes, numbers)

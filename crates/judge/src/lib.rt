@@ -46,6 +46,7 @@ fn place_of(codes: &[u8], k: usize) -> usize
     requires { (k ≤ length codes.now) × (length codes.now ≤ 262144) }
     ensures { result ≡ place_of k codes.now }
 {
+    // Added by hand: `sum` asks that the sum of a mapped list fits, and that did not close at once.
     let before = &codes[..k];
     let mut place = 0;
     for code in before {
@@ -63,7 +64,8 @@ pub fn find_command(codes: &[u8], numbers: &[f32], k: usize) -> Outcome<(usize, 
     Ok((place_of(codes, k), reader::size_of_code(codes[k])))
 }
 
-// The number that a call for command k hands back beside its part: 0 for an answer.
+// The number that a call for command k hands back beside its part: 0 for an answer. This and the part stand beside `find_command`, by
+// which C is served: the part is handed back by itself, empty for a refusal, and a second call tells why.
 #[tactic(auto, using(crate::proofs::Ways::parts))]
 pub fn command_fault(codes: &[u8], numbers: &[f32], k: usize) -> u32
     ensures { result ≡ command_fault codes.now numbers.now k }

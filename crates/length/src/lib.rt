@@ -21,7 +21,8 @@ fn is_there(least: Option<f32>, pen: Pen) -> bool
 }
 
 // Reads a list from its start: each command is judged, then drawn by the pen. What lies past the first command by which the
-// list is so long is not read. Tells whether there is one, how many commands were read, and how long they are.
+// list is so long is not read. Tells whether there is one, how many commands were read, and how long they are. The
+// flag is no `Option` around the two, which are told either way.
 // Codes and numbers are two parameters for the reason at `judge::judge`.
 #[tactic(auto, using(crate::proofs::Ways::walking))]
 pub fn walk(codes: &[u8], numbers: &[f32], least: Option<f32>) -> Outcome<(bool, usize, f32)>

@@ -7,7 +7,8 @@ ghost use Rattle.path.specs.Path.{vertex_at, approx_eq, is_line, bezier_segment,
 
 use command::PathCommand;
 
-// A vertex with its in-tangent and its out-tangent, both relative to it.
+// A vertex with its in-tangent and its out-tangent, both relative to it. Its six fields bear the names of the list of drawing_paths.rs,
+// and `vertex_at` of specs/ reads them in its order, so it is no three points.
 #[derive(Clone, Copy)]
 pub struct BezierVertex {
     pub x: f32,
@@ -97,12 +98,13 @@ pub trait Outline {
     ghost few: { (outline : Self) → count outline ≤ 1024 };
 }
 
-// The vertices of a list of numbers, which has six for each.
+// The vertices of a list of numbers, which has six for each. C lends the flat list with its length and the count apart, and that it
+// holds so many is a check of its own, so they are kept as lent and not as a list of sixes.
 #[derive(Clone, Copy)]
 pub struct Vertices<'a> {
     pub numbers: &'a [f32],
     pub count: usize,
-    ghost sound: { Sound numbers.now count },
+    pub ghost sound: { Sound numbers.now count },
 }
 
 impl Outline for Vertices<'_> {

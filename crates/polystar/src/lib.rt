@@ -36,34 +36,28 @@ pub struct Polystar {
     pub inner: Ring,
 }
 
-// What a polystar is: a star or a polygon, and which way its points go round.
+// What a polystar is: a star or a polygon, and which way its points go round, with the number by which C knows it.
 #[derive(Clone, Copy)]
 pub enum Mark {
-    Star,
-    Polygon,
+    Star = 1,
+    Polygon = 2,
     // The same with direction 3.
-    ReversedStar,
-    ReversedPolygon,
+    ReversedStar = 5,
+    ReversedPolygon = 6,
 }
 
 impl Mark {
     fn is_star(self) -> bool
         ensures { result ≡ spec.is_star (number_of self) }
     {
-        match self {
-            Mark::Star | Mark::ReversedStar => true,
-            Mark::Polygon | Mark::ReversedPolygon => false,
-        }
+        matches!(self, Mark::Star | Mark::ReversedStar)
     }
 
     // Whether the points go round the other way.
     fn is_reversed(self) -> bool
         ensures { result ≡ spec.is_reversed (number_of self) }
     {
-        match self {
-            Mark::Star | Mark::Polygon => false,
-            Mark::ReversedStar | Mark::ReversedPolygon => true,
-        }
+        matches!(self, Mark::ReversedStar | Mark::ReversedPolygon)
     }
 
     // 1 in the direction of the points, and -1 for direction 3.
@@ -73,7 +67,8 @@ impl Mark {
         if self.is_reversed() { -1.0 } else { 1.0 }
     }
 
-    // The part of the perimeter of a ring that belongs to one of so many points.
+    // The part of the perimeter of a ring that belongs to one of so many points. They are at most 1024 as in `Drawable`: past 2^24
+    // a count need not be a float.
     #[tactic(auto, using(crate::proofs::Ways::perimeters))]
     fn perimeter(self, count: usize, radius: f32) -> f32
         requires { count ≤ 1024 }
@@ -81,13 +76,13 @@ impl Mark {
     {
         let n = whole::from_whole(false, count as u64);
         if self.is_star() {
-            2.0 * 3.1415927 * radius / (n * 2.0)
+            2.0 * std::f32::consts::PI * radius / (n * 2.0)
         } else {
-            2.0 * 3.1415927 * radius / (n * 4.0)
+            2.0 * std::f32::consts::PI * radius / (n * 4.0)
         }
     }
 
-    // The ring of so many points that has this radius and this roundness in percent.
+    // The ring of so many points that has this radius and this roundness in percent. The count is bounded for `perimeter`.
     #[tactic(auto, unfolding(crate::specs::Polystar::ring_of))]
     fn ring(self, count: usize, radius: f32, roundness: f32) -> Ring
         requires { count ≤ 1024 }
@@ -105,12 +100,7 @@ impl From<Mark> for u32 {
     ghost from_gives = { λ mark number. number ≡ number_of mark };
 
     fn from(mark: Mark) -> u32 {
-        match mark {
-            Mark::Star => 1,
-            Mark::Polygon => 2,
-            Mark::ReversedStar => 5,
-            Mark::ReversedPolygon => 6,
-        }
+        mark as u32
     }
 }
 

@@ -14,9 +14,9 @@ fn is_length(least: f32) -> bool
     float::is_finite(least) && 0.0 <= least
 }
 
+// Whether the length of a list is at least `least`, and how many commands were read for it, which is told either way, so it is no
+// `Option`. What follows the command that tells it is not read.
 // Codes and numbers are two parameters for the reason at `judge::judge`.
-// Whether the length of a list is at least `least`, and how many commands were read for it. What follows the command that
-// tells it is not read.
 #[tactic(auto, using(crate::proofs::Ways::reaching))]
 pub fn length_reaches(codes: &[u8], numbers: &[f32], least: f32) -> Outcome<(bool, usize)>
     ensures { result ≡ length_reaches codes.now numbers.now least }

@@ -6,7 +6,8 @@ ghost use Rattle.reader.specs.Read.{size_of_code, command_at, read_from};
 
 use command::{Outcome, PathCommand, Refusal};
 
-// How many numbers the command with a code has.
+// How many numbers the command with a code has. A code is a number here and below: C's list holds bytes, any may come, and it is
+// `read_command` that tells which are listed.
 #[tactic(auto, unfolding(crate::specs::Read::size_of_code))]
 pub fn size_of_code(code: u8) -> usize
     ensures { result ≡ size_of_code code }

@@ -1,14 +1,14 @@
 // A rectangle as path commands: `build_rect_path` and `build_round_rect_path` of drawing_paths.rs.
 #![tactic(auto)]
 
-ghost use Rattle.std.specs.Prelude.{◌≡◌, length};
+ghost use Rattle.std.specs.Prelude.{◌≡◌};
 ghost use Rattle.std.specs.Float.Ieee.{le};
-ghost use Rattle.command.specs.Commands.{numbers_of};
+ghost use Rattle.command.specs.Buffers.{size_of, pair_of};
 ghost use Rattle.rect.specs.declared.Bounds.{Bounds};
 ghost use Rattle.rect.specs.Bounds.{near_side, rect_bounds};
 ghost use Rattle.rect.specs.Rect.{epsilon, corner_radius, plain_rect, round_rect, rect_path};
 
-use command::PathCommand;
+use command::{PathCommand, Size};
 use point::Point;
 
 // The centre and the size that a box is made from.
@@ -110,18 +110,20 @@ pub fn round_commands(bounds: Bounds, radius: f32) -> [PathCommand; 10]
     ]
 }
 
-// How many commands a rectangle has, whatever its box.
+// How many codes and numbers a rectangle has, whatever its box.
 #[tactic(auto, unfolding(crate::specs::Rect::rect_path, crate::specs::Rect::plain_rect, crate::specs::Rect::round_rect))]
-pub fn rect_count(radius: f32) -> usize
-    ensures { (b : Bounds) → result ≡ length (rect_path b radius) }
+pub fn rect_size(radius: f32) -> Size
+    ensures { (b : Bounds) → pair_of result ≡ size_of (rect_path b radius) }
 {
-    if is_plain(radius) { 5 } else { 10 }
-}
-
-// How many numbers those commands have.
-#[tactic(auto, unfolding(crate::specs::Rect::rect_path, crate::specs::Rect::plain_rect, crate::specs::Rect::round_rect))]
-pub fn rect_numbers(radius: f32) -> usize
-    ensures { (b : Bounds) → result ≡ length (numbers_of (rect_path b radius)) }
-{
-    if is_plain(radius) { 8 } else { 34 }
+    if is_plain(radius) {
+        Size {
+            codes: 5,
+            numbers: 8,
+        }
+    } else {
+        Size {
+            codes: 10,
+            numbers: 34,
+        }
+    }
 }

@@ -12,7 +12,7 @@ use command::{PathCommand, Size};
 use path::{BezierVertex, Outline, Vertices};
 use sheet::Sheet;
 
-// The code of a segment.
+// The code of a segment: that of `PathCommand::code` for a line or a cubic, told without a branch and before there is a command.
 fn segment_code(line: bool) -> u8
     ensures { result ≡ cond line 1 2 }
 {

@@ -14,7 +14,7 @@ use path::{BezierVertex, Outline, Vertices};
 
 // A vertex that a walk over a path has come to, and how many numbers there are on the way to it.
 #[derive(Clone, Copy)]
-pub struct Reached {
+struct Reached {
     pub vertex: BezierVertex,
     pub at: usize,
 }
@@ -44,6 +44,7 @@ fn four_leave(vertices: &[f32], j: usize) -> bool
 fn cubics_before(vertices: &Vertices<'_>) -> usize
     ensures { Passed (vertex_at vertices.now.numbers.now) vertices.now.count result }
 {
+    // A loop that returns: by `find` over the fours the proof did not close at once.
     let fours = (vertices.count - 1) / 4;
     for k in 0..fours {
         if !four_leave(vertices.numbers, 4 * k) {
@@ -68,7 +69,7 @@ fn numbers_between<O: Outline>(outline: &O, start: usize) -> Reached
         at = path::end_place(a.is_line_to(b), at) + 2;
         a = b;
     }
-    Reached { vertex: a, at: at }
+    Reached { vertex: a, at }
 }
 
 // How many numbers the path of an outline has, of whose segments those before `start` are cubics.

@@ -20,8 +20,6 @@ use Rattle.command.proofs.Lists.{codes_length}
 use Rattle.command.proofs.Buffers.{fitted_accepted, fitted_refused, filled, both_unfilled}
 use Rattle.path.specs.Path.{bezier_count, path_commands, Sound}
 use Rattle.path.proofs.Paths.{path_commands_length}
-use Rattle.rect.specs.declared.Bounds.{Bounds}
-use Rattle.rect.specs.Rect.{rect_path}
 use Rattle.shape.specs.declared.Shape.{Shape}
 use Rattle.shape.specs.declared.Shape.TheVariants.{Path}
 use Rattle.shape.specs.Shape.{shape_commands, Fit}
@@ -35,11 +33,6 @@ path_sized closed count v sound n m n_is m_is =
 
 pub path_fits : (s : Shape) (closed count : ℕ) → s ≡ Path closed count → (v : List Float) → Fit s v → Sound v count
 path_fits s closed count is v fit = path_sound closed count v (rw is at fit)
-
--- ---- a rectangle
-pub rect_sized : (b : Bounds) (radius : Float) (n m : ℕ) → n ≡ length (rect_path b radius) → m ≡ length (numbers_of (rect_path b radius))
-    → (n, m) ≡ size_of (rect_path b radius)
-rect_sized b radius n m e f = rw (codes_length (rect_path b radius), ← e, ← f)
 
 -- ---- is_ample, holds and is_within
 pub path_ample : (s : Shape) (v : List Float) (closed count : ℕ) (room : Size) → s ≡ Path closed count → Fit s v → count + 2 ≤ room.codes

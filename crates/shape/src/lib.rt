@@ -2,8 +2,7 @@
 #![tactic(auto)]
 
 ghost use Rattle.std.specs.Prelude.{◌≡◌, true, ◌&&◌, ◌≤◌, leb, length};
-ghost use Rattle.command.specs.Outcomes.{number_of};
-ghost use Rattle.command.specs.Buffers.{fitted, in_buffers, codes_told, numbers_told, FilledBoth, size_of, pair_of};
+ghost use Rattle.command.specs.Buffers.{in_buffers, DrawnInto, size_of, pair_of};
 ghost use Rattle.rect.specs.Bounds.{rect_bounds};
 ghost use Rattle.rect.specs.Rect.{rect_path};
 ghost use Rattle.ellipse.specs.Ellipse.{ellipse_path};
@@ -20,7 +19,8 @@ use sheet::Sheet;
 // What is to be drawn, and what decides how much of it there is. Its numbers stand in the list of a `Drawing`.
 #[derive(Clone, Copy)]
 pub enum Shape {
-    // The closed flag, as C lends it: with any number but 1 the path is open. And how many vertices: the list has six numbers for each.
+    // The closed flag, as C lends it: with any number but 1 the path is open, and a bool would ask more of who makes a shape.
+    // And how many vertices: the list has six numbers for each.
     Path { closed: u32, count: usize },
     // The radius of the corners. The list has the centre and the size.
     Rect(f32),
@@ -33,7 +33,7 @@ pub enum Shape {
 pub struct Drawing<'a> {
     pub shape: Shape,
     pub list: &'a [f32],
-    ghost fits: { Fit shape list.now },
+    pub ghost fits: { Fit shape list.now },
 }
 
 // What a path needs: each of its segments may be a line or a cubic, so all are looked at. This is a call of its own, so that
@@ -99,7 +99,7 @@ impl<'a> Drawing<'a> {
     ghost use Rattle.shape.specs.Drawings.{commands_of};
 
     // What it needs, exactly: the one count that drawing, telling and merging go by.
-    #[tactic(auto, using(crate::proofs::Ways::path_fits, crate::proofs::Ways::rect_sized), unfolding(crate::specs::Shape::shape_commands, ellipse::specs::Ellipse::ellipse_path))]
+    #[tactic(auto, using(crate::proofs::Ways::path_fits), unfolding(crate::specs::Shape::shape_commands, ellipse::specs::Ellipse::ellipse_path))]
     #[inline(always)]
     pub fn need(&self) -> Size
         ensures { pair_of result ≡ size_of (commands_of self.now) }
@@ -112,10 +112,7 @@ impl<'a> Drawing<'a> {
                     count,
                 },
             ),
-            Shape::Rect(radius) => Size {
-                codes: rect::rect_count(radius),
-                numbers: rect::rect_numbers(radius),
-            },
+            Shape::Rect(radius) => rect::rect_size(radius),
             Shape::Ellipse => Size {
                 codes: 6,
                 numbers: 26,
@@ -180,20 +177,14 @@ impl<'a> Drawing<'a> {
     // Writes it from the start of two buffers, if it fits them.
     #[tactic(auto, using(crate::proofs::Ways::codes_held, crate::proofs::Ways::numbers_held))]
     pub fn draw(&self, codes: &mut [u8], numbers: &mut [f32]) -> Outcome<Size>
-        ensures { FilledBoth
-            (fitted (in_buffers (length codes.old) (length numbers.old)) (Ok (commands_of self.now)))
-            (number_of result) (codes_told result) (numbers_told result)
-            codes.old codes.new numbers.old numbers.new }
+        ensures { DrawnInto (Ok (commands_of self.now)) result codes.old codes.new numbers.old numbers.new }
     {
         let room = Size {
             codes: codes.len(),
             numbers: numbers.len(),
         };
         if self.is_within(room) {
-            let at = Size {
-                codes: 0,
-                numbers: 0,
-            };
+            let at = Size::default();
             let mut sheet = Sheet { codes, numbers, at };
             self.put(&mut sheet);
             Ok(sheet.at)

@@ -16,7 +16,11 @@ fn reached_of(codes: &[u8], numbers: &[f32], least: f32) -> Answer<Pair<&'static
     Answer(reached.map(|(yes, read)| Pair(if yes { "yes" } else { "no" }, read)))
 }
 
-fn place_of(codes: &[u8], numbers: &[f32], k: usize) -> Answer<Pair<&'static str, Pair<usize, usize>>> {
+fn place_of(
+    codes: &[u8],
+    numbers: &[f32],
+    k: usize,
+) -> Answer<Pair<&'static str, Pair<usize, usize>>> {
     let found = judge::find_command(codes, numbers, k);
     Answer(found.map(|(start, count)| Pair("numbers", Pair(start, count))))
 }
