@@ -78,12 +78,13 @@ pub fn tell_size(size: Outcome<Size>, codes: &mut usize, numbers: &mut usize) ->
     tell(size.map(|size| (size.codes, size.numbers)), codes, numbers)
 }
 
-// Numbers at a place, and the place after them.
+// Numbers at a place, and the place after them. A buffer and a place stay apart where numbers are put: a type for both would be made at
+// each call and taken apart here.
 pub fn put<const N: usize>(numbers: &mut [f32], at: usize, values: [f32; N]) -> usize
     requires { at + N ≤ length numbers.old }
     ensures { (result ≡ at + N) × (numbers.new ≡ sets numbers.old at values.entry) }
 {
-    // One by one: with `copy_from_slice` the archive takes an eleventh more instructions for a path of cubics.
+    // One by one: with `copy_from_slice` a path takes more instructions than it did before (docs/CHANGES.md).
     for k in 0..N {
         numbers[at + k] = values[k];
     }

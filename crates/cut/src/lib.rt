@@ -112,7 +112,7 @@ pub fn put_ranges(ranges: Ranges, buffer: &mut [f32])
     }
 }
 
-// Puts the cut lengths of one range down from a place on.
+// Puts the cut lengths of one range down from a place on. Buffer and place as in `command::put`.
 #[tactic(auto, using(command::proofs::Buffers::sets_append))]
 fn put_cut(cuts: Cuts, buffer: &mut [f32], at: usize)
     requires { at + 3 ≤ length buffer.old }

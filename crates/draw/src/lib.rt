@@ -124,7 +124,7 @@ pub fn check_row(row: &[u32]) -> Outcome<ItemRow>
 
 // Draws the first `count` vertices of a list, each of six numbers, into two buffers: the flag, the list and the buffers as C lends them.
 // `need::path_need` makes the same drawing, and `need::source_need` that of `draw_source`, each after the same checks: one function
-// that hands a drawing on is not inlined (docs/DECISIONS.md, Speed, 12).
+// of both would be larger than the compiler inlines by itself (docs/DECISIONS.md, Speed, 12).
 #[tactic(auto, using(crate::proofs::Ways::path_ready, command::proofs::Verdicts::behind_value), unfolding(crate::specs::Paths::draw_path, shape::specs::Shape::shape_commands))]
 pub fn draw_path(
     closed: u32,

@@ -3,15 +3,13 @@ use mathlib.Core.Path.{◌≡◌, sym, ap, ◌∙◌, subst}
 use Prim.Native.Nat.{ℕ, ◌+◌, ◌-◌, ◌*◌, ◌^◌, ◌<◌}
 use native.Mathlib.Omega.{arith}
 use mathlib.Core.Bool.{Bool, not, ◌&&◌}
-use lib.Dec.{T, leb, leb→le, le→leb}
-use lib.IntN.{pos}
-use lib.Ieee.{Float, binary32, binary64, sub, mul, div, of_int, of_bits, in_float, fits, is_nan}
+use lib.Dec.{T, leb, leb→le}
+use lib.Ieee.{Float, binary32, binary64, sub, mul, div, of_int, of_bits, fits, is_nan}
 use lib.Ieee.Fits.{and_l, and_r}
 use Rattle.ieee.specs.Literal.{one32}
 use Rattle.ieee.specs.Operators.{◌⊖◌, ◌⊗◌}
 use Rattle.ieee.specs.Fused.{fma}
 use Rattle.curve.specs.Curve.{two32, squared, quad_at, step_of}
-use Rattle.curve.proofs.Chords.{quad_steps}
 use Rattle.flatten.specs.Weight.{QuadWeights}
 use Rattle.flatten.proofs.Exact.{weight_widens}
 use Rattle.flatten.proofs.Steps.{up_to, at, weighs, weighs→Weight}
@@ -68,12 +66,3 @@ module _ (i : ℕ) (some : 0 < i) (within : i < 8) (t : Float) (is : t ≡ step_
       → r ≡ quad_at a b c (step_of 24 (3 * i))
   unfolding quad_at
   quad_is a b c r e = e ∙ ap (quad_at a b c) is
-
--- ---- 3 * i / 24
-pub eighth_casts : (i : ℕ) → i < 8 → T (in_float binary32 (pos (3 * i)))
-unfolding in_float
-eighth_casts i h = le→leb (3 * i) (2 ^ 24) (omega arith)
-
-pub eighth_is : (i : ℕ) → div binary32 (of_int binary32 (pos (3 * i))) (of_bits binary32 0x41c0_0000) ≡ step_of 24 (3 * i)
-unfolding step_of
-eighth_is i = ap (div binary32 (of_int binary32 (pos (3 * i)))) (sym quad_steps)

@@ -1,5 +1,5 @@
 -- The weights of a cubic at each step of 1 / 32, by one test that antt computes over the 31 of them. Assumes nothing.
-use mathlib.Core.Path.{◌≡◌, refl, sym, ap, ◌∙◌, subst}
+use mathlib.Core.Path.{◌≡◌, sym, ap, ◌∙◌, subst}
 use mathlib.Core.Logic.{inl, inr}
 use Prim.Native.Nat.{ℕ, zero, suc, ◌+◌, ◌-◌, ◌*◌, ◌^◌, ◌≤◌, ◌<◌}
 use native.Mathlib.Nat.{lt_irrefl, lt_of_lt_of_le, le_of_suc-le-suc, eq-or-lt_of_le}
@@ -103,15 +103,7 @@ module _ (i : ℕ) (some : 0 < i) (within : i < 32) (t : Float) (is : t ≡ step
   unfolding cubic_at
   cubic_is a b c d r e = e ∙ ap (cubic_at a b c d) is
 
--- ---- i / 32
-pub step_casts : (i : ℕ) → i < 32 → T (in_float binary32 (pos i))
+-- ---- i / n
+pub step_casts : (i : ℕ) → i < 2 ^ 24 → T (in_float binary32 (pos i))
 unfolding in_float
 step_casts i h = le→leb i (2 ^ 24) (omega arith)
-
-thirty_two : of_bits binary32 0x4200_0000 ≡ of_int binary32 (pos 32)
-unfolding of_bits of_int
-thirty_two = refl
-
-pub step_is : (i : ℕ) → div binary32 (of_int binary32 (pos i)) (of_bits binary32 0x4200_0000) ≡ step_of 32 i
-unfolding step_of
-step_is i = ap (div binary32 (of_int binary32 (pos i))) thirty_two

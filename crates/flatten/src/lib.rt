@@ -9,13 +9,13 @@ ghost use Rattle.curve.specs.Curve.{quad_at, cubic_at, step_of};
 ghost use Rattle.flatten.specs.Level.{Coordinates, QuadCoordinates, Near, AllNear};
 ghost use Rattle.flatten.specs.Weight as Weight;
 
-// step / 32.
-#[tactic(auto, using(crate::proofs::Steps::step_casts, crate::proofs::Steps::step_is))]
-fn of_step(step: u32) -> f32
-    requires { step < 32 }
-    ensures { result ≡ step_of 32 step }
+// Where a step of so many is on a curve.
+#[tactic(auto, using(crate::proofs::Steps::step_casts), unfolding(curve::specs::Curve::step_of))]
+fn of_step(step: u32, steps: u32) -> f32
+    requires { (step < 2 ^ 24) × (steps < 2 ^ 24) }
+    ensures { result ≡ step_of steps step }
 {
-    step as f32 / 32.0
+    step as f32 / steps as f32
 }
 
 // What each of the four points of a cubic counts at a step. It and `QuadWeights` differ in the number of weights and in the facts of
@@ -58,7 +58,7 @@ impl CubicAxis {
         requires { (0 < step) × (step < 32) }
         ensures { result ≡ cubic_at self.start self.control1 self.control2 self.end (step_of 32 step) }
     {
-        let t = of_step(step);
+        let t = of_step(step, 32);
         let u = 1.0 - t;
         self.weighted(CubicWeights {
             start: (u * (u * u)) as f64,
@@ -67,15 +67,6 @@ impl CubicAxis {
             end: (t * (t * t)) as f64,
         })
     }
-}
-
-// eighth / 8, as a step of 24: every third of them. `of_step` is no twin: a cubic's step is one of 32, and of every one.
-#[tactic(auto, using(crate::proofs::Eighths::eighth_casts, crate::proofs::Eighths::eighth_is))]
-fn of_eighth(eighth: u32) -> f32
-    requires { eighth < 8 }
-    ensures { result ≡ step_of 24 (3 * eighth) }
-{
-    (3 * eighth) as f32 / 24.0
 }
 
 // What each of the three points of a quad counts at an eighth.
@@ -114,7 +105,7 @@ impl QuadAxis {
         requires { (0 < eighth) × (eighth < 8) }
         ensures { result ≡ quad_at self.start self.control self.end (step_of 24 (3 * eighth)) }
     {
-        let t = of_eighth(eighth);
+        let t = of_step(3 * eighth, 24);
         let u = 1.0 - t;
         self.weighted(QuadWeights {
             start: (u * u) as f64,

@@ -54,7 +54,8 @@ pub fn is_finite(x: f32) -> bool
     x.is_finite()
 }
 
-// The float with the sign `negative` and the rest p of its pattern.
+// The float with the sign `negative` and the rest p of its pattern. The sign stays beside the number here, in `encode` and in
+// `whole::from_whole`: `Parts` holds less than they take.
 pub fn signed(negative: bool, p: u64) -> f32
     requires { p ≤ infinity }
     ensures { result ≡ Ieee.of_bits binary32 (with_sign negative p) }

@@ -4,7 +4,6 @@ use Prim.Native.Nat.{ℕ, ◌+◌, ◌-◌, ◌*◌, ◌/◌, ◌^◌, ◌≤◌
 use native.Mathlib.Nat.{le_trans, lt_of_lt_of_le, zero-mul, mul_comm, mul_assoc, mul-le-mul_right, mul-lt-mul_of_pos_right}
 use native.Mathlib.Omega.{arith}
 use mathlib.Core.Bool.{Bool}
-use lib.Dec.{lit≤}
 use lib.Pow.{pow-add, pow_pos, pow_mono, shr_lt}
 use lib.Ieee.{Float, binary32, units, round}
 use lib.Ieee.Nearest.{closest, closest_same}

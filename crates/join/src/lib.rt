@@ -67,7 +67,8 @@ fn write_rows(rows: &[[u32; 6]], items: &[f32], sheet: &mut Sheet)
     }
 }
 
-// Draws the sources among rows into two buffers, if they fit.
+// Draws the sources among rows into two buffers, if they fit. The two stay as C lends them until they are known to have room: only then
+// is a sheet made of them. The test is the opposite of `holds` of `shape`, which takes two sizes: making one here would be longer.
 #[tactic(auto, using(crate::proofs::Ways::joins))]
 fn join_rows(
     rows: &[[u32; 6]],

@@ -1,5 +1,5 @@
 -- A command list as codes and numbers: the order of its checks, its commands, and the numbers of one command. Definitions only.
-use Rattle.std.specs.Prelude.{ℕ, zero, suc, ◌+◌, not, List, [], ◌∷◌, eqb, ltb, Float, length, get_or, take, drop, Ok, Err}
+use Rattle.std.specs.Prelude.{ℕ, zero, suc, ◌+◌, not, List, [], ◌∷◌, eqb, ltb, Float, length, get_or, take, drop, Ok}
 use Rattle.command.specs.declared.PathCommand.{PathCommand}
 use Rattle.command.specs.declared.Refusal.TheVariants.{TooMany, OutOfBounds}
 use Rattle.command.specs.Outcomes.{Outcome, number_of, mapped, and_then, list_of, ◌gives◌, checked}

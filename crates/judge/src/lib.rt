@@ -6,7 +6,8 @@ ghost use Rattle.judge.specs.Lists.{judge_list, without_commands, place_of, judg
 
 use command::{Outcome, Refusal};
 
-// The first fault of a command list.
+// The first fault of a command list. `length::walk` has this loop with a pen and a stop: one for both would take closures, and its
+// contract would have to say what they answer.
 // Codes and numbers are two parameters, as C lends them: as one value each contract says `list.entry.codes.now list.entry.numbers.now`, no plainer.
 #[tactic(auto, using(crate::proofs::Ways::judging))]
 pub fn judge(codes: &[u8], numbers: &[f32]) -> Outcome<()>
@@ -64,8 +65,8 @@ pub fn find_command(codes: &[u8], numbers: &[f32], k: usize) -> Outcome<(usize, 
     Ok((place_of(codes, k), reader::size_of_code(codes[k])))
 }
 
-// The number that a call for command k hands back beside its part: 0 for an answer. This and the part stand beside `find_command`, by
-// which C is served: the part is handed back by itself, empty for a refusal, and a second call tells why.
+// The number that a call for command k hands back beside its part: 0 for an answer. This and the part are public and cannot fail: one
+// call that gives the part or the refusal could stand beside them, and not in their place.
 #[tactic(auto, using(crate::proofs::Ways::parts))]
 pub fn command_fault(codes: &[u8], numbers: &[f32], k: usize) -> u32
     ensures { result ≡ command_fault codes.now numbers.now k }

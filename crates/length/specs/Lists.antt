@@ -1,5 +1,5 @@
 -- What measuring a lent command list answers, whatever it is given. Definitions only.
-use Rattle.std.specs.Prelude.{ℕ, List, Float, Ok, Err}
+use Rattle.std.specs.Prelude.{ℕ, List, Float}
 use Rattle.command.specs.Outcomes.{Outcome, mapped}
 use Rattle.judge.specs.Lists.{judge_list}
 use Rattle.measure.specs.Length.{path_length}

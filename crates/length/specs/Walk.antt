@@ -1,5 +1,5 @@
 -- Reading a command list from its start, a command at a time, up to a length or to its end: the code's own way to lengths. Definitions only.
-use Rattle.std.specs.Prelude.{ℕ, suc, Bool, true, false, cond, List, [], ◌∷◌, Float, drop, Option, Some, None, Ok, Err}
+use Rattle.std.specs.Prelude.{ℕ, suc, Bool, true, false, cond, List, [], ◌∷◌, Float, drop, Option, Some, None, Ok}
 use Rattle.std.specs.Float.Ieee.{le}
 use Rattle.command.specs.declared.PathCommand.{PathCommand}
 use Rattle.command.specs.Outcomes.{Outcome, mapped, and_then}

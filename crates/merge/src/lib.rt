@@ -43,6 +43,7 @@ fn may_precede(row: ItemRow, after: &[[u32; 6]]) -> bool
 }
 
 // The place of the merge row, with the number of sources before it, where only rows that may be there stand before it.
+// The place and no slices, as in `scan_from`: `rule` cuts the rows before it and those after it by the same number.
 #[tactic(auto, unfolding(crate::specs::Flat::scan_from))]
 fn find_merge(rows: &[[u32; 6]]) -> Option<(usize, usize)>
     ensures value { result ≡ scan_from 0 0 (map row_of rows.now) }

@@ -27,6 +27,7 @@ pub fn approx_eq(a: f32, b: f32) -> bool
 }
 
 // Whether two points are within 1e-4 in each axis. By `&` and not `&&`, so that no branch hangs on how near they are.
+// Four floats: they are fields of a vertex and sums of them, and no `Point` is at hand.
 fn approx_eq_point(ax: f32, ay: f32, bx: f32, by: f32) -> bool
     ensures { result ≡ (approx_eq ax bx && approx_eq ay by) }
 {
@@ -62,7 +63,8 @@ impl BezierVertex {
     }
 }
 
-// The vertex at a place of a list of numbers.
+// The vertex at a place of a list of numbers, of any that is long enough: `Vertices` asks for at most 1024 besides, and a public function
+// may not ask more. By index: a chunk of six would be asked whether it is there, which the contract says already.
 pub fn vertex_at(vertices: &[f32], k: usize) -> BezierVertex
     requires { 6 * k + 6 ≤ length vertices.now }
     ensures { result ≡ vertex_at vertices.now k }
@@ -99,7 +101,8 @@ pub trait Outline {
 }
 
 // The vertices of a list of numbers, which has six for each. C lends the flat list with its length and the count apart, and that it
-// holds so many is a check of its own, so they are kept as lent and not as a list of sixes.
+// holds so many is a check of its own, so they are kept as lent and not as a list of sixes. The closed flag stays beside it: an outline
+// has none, and each function that takes both parts them at once.
 #[derive(Clone, Copy)]
 pub struct Vertices<'a> {
     pub numbers: &'a [f32],

@@ -31,7 +31,7 @@ fn leading_digit(n: u32) -> u8
     if n == 0 { b' ' } else { digit(n) }
 }
 
-// A number in the columns before the last one, from the right.
+// A number in the columns before the last one, from the right. No method of `Text`: its promise would have to say that `at` stays.
 // By index, since of a slice that is written through `iter_mut().rev()` a proof knows only the length.
 #[tactic(auto, using(crate::proofs::Ways::leads))]
 fn put_leading(out: &mut [u8], at: usize, width: usize, value: u32)
@@ -96,8 +96,8 @@ impl Text<'_> {
         self.put_newline();
     }
 
-    // A line of 8 or 9, which are no command's code, and one number, which is no float: a function of three lines, and no plainer
-    // with a closure for the bits.
+    // A line of 8 or 9, which are no command's code, and 32 bits: the number of a refusal, or the pattern of a length.
+    // With a closure for the bits, one function for this and `put_numbers_line` is no plainer.
     #[tactic(auto, using(crate::proofs::Ways::writing), unfolding(crate::specs::Lines::line, crate::specs::Lines::columns))]
     fn put_line(&mut self, code: u32, value: u32)
         requires { HasRoom self.old 14 }

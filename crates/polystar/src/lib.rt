@@ -68,7 +68,7 @@ impl Mark {
     }
 
     // The part of the perimeter of a ring that belongs to one of so many points. They are at most 1024 as in `Drawable`: past 2^24
-    // a count need not be a float.
+    // a count need not be a float. A type for such a count would be made in `polystar_of` alone, and taken apart here.
     #[tactic(auto, using(crate::proofs::Ways::perimeters))]
     fn perimeter(self, count: usize, radius: f32) -> f32
         requires { count ≤ 1024 }

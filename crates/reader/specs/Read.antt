@@ -1,5 +1,5 @@
 -- One command as a code and the numbers from a place on: the order of its checks, and the command. Definitions only.
-use Rattle.std.specs.Prelude.{ℕ, ◌+◌, cond, not, List, [], ◌∷◌, eqb, ltb, Float, length, get_or, take, drop, Ok, Err}
+use Rattle.std.specs.Prelude.{ℕ, ◌+◌, cond, not, List, [], ◌∷◌, eqb, ltb, Float, length, get_or, take, drop, Ok}
 use Rattle.std.specs.Float.{nan}
 use Rattle.ieee.specs.Limit.{all_within}
 use Rattle.command.specs.declared.PathCommand.{PathCommand}

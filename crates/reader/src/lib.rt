@@ -20,7 +20,8 @@ pub fn size_of_code(code: u8) -> usize
     }
 }
 
-// The command that a listed code and the numbers of its part are.
+// The command that a listed code and the numbers of its part are. By index: that the part is long enough is asked, and a slice pattern
+// would need an arm for every other length.
 #[tactic(auto, unfolding(crate::specs::Read::size_of_code, crate::specs::Read::command_at))]
 fn command_of(code: u8, part: &[f32]) -> PathCommand
     requires { (code ≤ 4) × (size_of_code code ≤ length part.now) }
@@ -36,6 +37,7 @@ fn command_of(code: u8, part: &[f32]) -> PathCommand
 }
 
 // Reads the command with a code whose numbers start at a place of a list, and gives it with the place after its numbers.
+// A place and not the rest of the list, as in `read_from`: the rest would be a slice beside a command.
 #[tactic(auto, using(crate::proofs::Ways::reading))]
 pub fn read_command(code: u8, numbers: &[f32], place: usize) -> Outcome<(PathCommand, usize)>
     requires { place ≤ length numbers.now }

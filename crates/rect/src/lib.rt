@@ -56,7 +56,8 @@ impl Frame {
     }
 }
 
-// The radius of the corners of a rectangle with this size and roundness.
+// The radius of the corners of a rectangle with this size and roundness. Width and height are apart, as in the list: the one caller would
+// make a `Point` of them only for this.
 #[tactic(auto, unfolding(crate::specs::Rect::corner_radius))]
 pub fn corner_radius(w: f32, h: f32, roundness: f32) -> f32
     ensures { result ≡ corner_radius w h roundness }

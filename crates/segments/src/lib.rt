@@ -19,7 +19,8 @@ struct Reached {
     pub at: usize,
 }
 
-// Whether the x of the out-tangent at vertex j is enough to make the segment from there a cubic.
+// Whether the x of the out-tangent at vertex j is enough to make the segment from there a cubic. Of the list alone, as `vertex_at` takes
+// it: with `Vertices` each clause would name `vertices.now.numbers.now`.
 fn leaves(vertices: &[f32], j: usize) -> bool
     requires { 6 * j + 6 ≤ length vertices.now }
     ensures { result ≡ leaves (vertex_at vertices.now j) }
@@ -55,7 +56,8 @@ fn cubics_before(vertices: &Vertices<'_>) -> usize
 }
 
 // How many numbers a move and the segments between the vertices have, and the last vertex; those before `start` are cubics. They are
-// counted by the place of a segment's end: so the compiler tests the four differences of a segment together.
+// counted by the place of a segment's end: so the compiler tests the four differences of a segment together. `start` and its `Passed` are
+// no type: its ghost field would name the outline, so it would have to hold that too.
 #[tactic(auto, using(crate::proofs::Tally::tallies))]
 fn numbers_between<O: Outline>(outline: &O, start: usize) -> Reached
     requires { Passed (O.vertex outline.now) (O.count outline.now) start }

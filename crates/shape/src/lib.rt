@@ -49,7 +49,8 @@ fn path_need(closed: u32, vertices: &Vertices<'_>) -> Size
     }
 }
 
-// The centre and the size that are the first four numbers of a list.
+// The centre and the size that are the first four numbers of a list. By index: a chunk of four would be asked whether it is there, which
+// the contract says already.
 fn frame_of(list: &[f32]) -> Frame
     requires { 4 ≤ length list.now }
     ensures { result ≡ frame_of list.now }
@@ -174,7 +175,8 @@ impl<'a> Drawing<'a> {
         self.is_ample(room) || holds(room, self.need())
     }
 
-    // Writes it from the start of two buffers, if it fits them.
+    // Writes it from the start of two buffers, if it fits them. They stay as C lends them until they are known to have room: only then
+    // is a sheet made of them.
     #[tactic(auto, using(crate::proofs::Ways::codes_held, crate::proofs::Ways::numbers_held))]
     pub fn draw(&self, codes: &mut [u8], numbers: &mut [f32]) -> Outcome<Size>
         ensures { DrawnInto (Ok (commands_of self.now)) result codes.old codes.new numbers.old numbers.new }

@@ -71,7 +71,7 @@ fn near_size(a: f32) -> f32
     r + step_if(r + 0.5 == a)
 }
 
-// x without its sign. With `float::abs`, which asks for a NaN and a zero, `round` is slower. That x is no NaN is asked here and in
+// x without its sign. With `float::abs`, which asks whether x is below 0 and whether it is 0, `round` is slower. That x is no NaN is asked here and in
 // `unit_of`, and follows in both from `Small`: a type for it would be made only to be handed to these two.
 fn size_of(x: f32) -> f32
     requires { T (not (is_nan x)) }

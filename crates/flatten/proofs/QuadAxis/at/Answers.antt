@@ -3,4 +3,4 @@ use Rattle.flatten.proofs.Eighths.{eighth_weights}
 use Rattle.flatten.proofs.QuadAxis.at.Goals as goal
 
 pub invariant_of-weighted : goal.invariant_of-weighted
-invariant_of-weighted c = record { weights = ∣ eighth_weights c.args.eighth c.requires.0 c.requires.1 c.of_eighth-t.result c.of_eighth-t.ensures ∣₁ }
+invariant_of-weighted c = record { weights = ∣ eighth_weights c.args.eighth c.requires.0 c.requires.1 c.of_step-t.result c.of_step-t.ensures ∣₁ }
