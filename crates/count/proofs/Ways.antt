@@ -68,9 +68,6 @@ module _ (x : Float) (r : Parts) (value : HasValue x r.negative (r.digits * 2 ^ 
   pub drops_inside : r.drops ≤ 149
   drops_inside = let h = drops_few in omega arith
 
-  pub shift_some : 0 < 149 - r.drops
-  shift_some = let h = drops_few in omega arith
-
   -- the parts are the same fraction
   same : (g : ℕ → ℕ → ℕ) → Mono g → (y : Float) → HasValue y r.negative (r.digits * 2 ^ r.drops) (2 ^ 149) → r.negative ≡ false
       → (count : Float → ℕ) → ((s : Bool) (m : ℕ) (e : ℤ) → count (fin s m e) ≡ cond s 0 (g (m * up e) (down e))) → g r.digits (2 ^ (149 - r.drops)) ≡ count y
@@ -104,4 +101,4 @@ module _ (x : Float) (r : Parts) (value : HasValue x r.negative (r.digits * 2 ^ 
   pub up_count : r.negative ≡ false → (n : ℕ) → n ≡ whole_up r.digits (2 ^ (149 - r.drops)) → n ≡ count_up x
   up_count s n e = e ∙ same whole_up up_mono x value s count_up (λ s m e. refl)
 
-pub ruleset counts = (down_other, up_other, drops_few, drops_inside, shift_some, down_negative, up_negative, down_count, up_count)
+pub ruleset counts = (down_other, up_other, drops_few, drops_inside, down_negative, up_negative, down_count, up_count)
