@@ -1,11 +1,12 @@
 // Calls in a text, as the vectors programs read them, and what they print of answers.
-// A line is a word and numbers of eight hexadecimal digits, with one blank before each.
+// A line is a word and numbers of eight hexadecimal digits, with one blank before each. Any bytes are a line: a number is what
+// stands at its place, whatever is written there.
 #![tactic(auto)]
 
-ghost use Rattle.std.specs.Prelude.{◌≡◌, ◌%◌, ◌≤◌, length, get_or, drop, min, IfOk};
+ghost use Rattle.std.specs.Prelude.{◌≡◌, ◌%◌, ◌<◌, ◌≤◌, length, get_or, drop, min, IfOk, IfSome};
 
 use command::{Outcome, Size};
-use std::io::{BufRead, BufReader, Read};
+use std::io::{Read, Write};
 use std::num::f32_from_bits_with_nan;
 use std::{fmt, io};
 
@@ -25,10 +26,11 @@ pub fn read_full(input: &mut impl Read, text: &mut [u8]) -> io::Result<usize>
     Ok(done)
 }
 
-// A call that a line asks for: the word, and the numbers after it.
+// A call that a line asks for: the line, how many numbers are in it, and these, or the first 2,048 of them: no call reads more.
 #[derive(Clone, Copy)]
 pub struct Call<'a> {
-    pub word: &'a str,
+    pub line: &'a [u8],
+    pub given: usize,
     pub patterns: &'a [u32],
 }
 
@@ -76,28 +78,33 @@ impl Call<'_> {
 
     // Fills a list with the floats from a place on, over and over.
     pub fn fill(&self, place: usize, list: &mut [f32]) {
-        fill_with(list, self.after(place), |pattern| {
+        let given = self.given.saturating_sub(place);
+        fill_with(list, self.after(place), given, |pattern| {
             f32_from_bits_with_nan(pattern)
         });
     }
 
-    // Fills the codes and the numbers of a path. At the place stands how many codes are given, and the numbers follow them.
+    // Fills the codes and the numbers of a path. At the place stands how many codes are given, 900 at most, and the numbers
+    // follow them.
     pub fn fill_path(&self, place: usize, codes: &mut [u8], numbers: &mut [f32]) {
-        let given = self.after(place);
-        if let Some((count, rest)) = given.split_first() {
-            let (code_patterns, floats) = rest.split_at(rest.len().min(*count as usize));
-            fill_with(codes, code_patterns, |pattern| (pattern % 256) as u8);
-            fill_with(numbers, floats, |pattern| f32_from_bits_with_nan(pattern));
-        }
+        let first = place.saturating_add(1);
+        let given = self.lent(place, 900);
+        fill_with(codes, self.after(first), given, |pattern| {
+            (pattern % 256) as u8
+        });
+        self.fill(first.saturating_add(given), numbers);
     }
 }
 
-// Fills a list with what patterns stand for, over and over.
-fn fill_with<T: Copy, F: Fn(u32) -> T>(list: &mut [T], patterns: &[u32], value: F)
+// Fills a list with what the first n patterns stand for, over and over: a thousand of them at most, where the first stands for
+// each that follows, and 0 for one that is not there.
+fn fill_with<T: Copy, F: Fn(u32) -> T>(list: &mut [T], patterns: &[u32], n: usize, value: F)
     requires { F.IsAlwaysCallable value }
 {
-    for (x, pattern) in list.iter_mut().zip(patterns.iter().cycle()) {
-        *x = value(*pattern);
+    for (i, x) in list.iter_mut().enumerate() {
+        let turn = i.checked_rem(n).unwrap_or(0);
+        let place = if turn < 1000 { turn } else { 0 };
+        *x = value(patterns.get(place).copied().unwrap_or(0));
     }
 }
 
@@ -195,33 +202,110 @@ impl fmt::Display for Drawn<'_> {
     }
 }
 
-// Prints each line of the input and what parts it from its answer, and lets `answer` print on.
+// The value of a hexadecimal digit; of any other byte, how far it lies above the digit before it.
+fn digit(byte: u8) -> u32 {
+    if byte >= b'a' {
+        u32::from(byte - b'a') + 10
+    } else {
+        u32::from(byte.saturating_sub(b'0'))
+    }
+}
+
+// The pattern of a number: its eight digits, of which each that is not there is a 0. A byte stands before them.
+fn pattern_of(number: &[u8]) -> u32 {
+    let mut pattern: u32 = 0;
+    for place in 1..9 {
+        let digit = digit(number.get(place).copied().unwrap_or(0));
+        pattern = pattern % 0x1000_0000 * 16 + digit % 16;
+    }
+    pattern
+}
+
+// Where the numbers begin in a line. The lines of a program are all of one form.
+#[derive(Clone, Copy)]
+pub enum Form {
+    // After a word of at most eight letters: what a line's length leaves when it is divided by nine.
+    ByLength,
+    // Likewise, but `need-` stands before the word where the line asks what the call needs.
+    MayNeed,
+    // At the first blank.
+    AtBlank,
+}
+
+// Where the word of a call stands in a line that may ask what the call needs: after `need-`.
+pub fn word_place(line: &[u8]) -> usize
+    ensures { result ≤ length line.now }
+{
+    if line.starts_with(b"n") && line.len() >= 5 {
+        5
+    } else {
+        0
+    }
+}
+
+impl Form {
+    fn numbers_place(self, line: &[u8]) -> usize
+        ensures { result ≤ length line.now }
+    {
+        let place = match self {
+            Form::ByLength => line.len() % 9,
+            Form::MayNeed => word_place(line) + (line.len() - word_place(line)) % 9,
+            Form::AtBlank => line
+                .iter()
+                .position(|byte| *byte == b' ')
+                .unwrap_or(line.len()),
+        };
+        place.min(line.len())
+    }
+}
+
+// Puts down the patterns of numbers from the start of a list, so many as it holds.
+fn read_patterns(numbers: &[u8], patterns: &mut [u32; 2048]) {
+    for (pattern, number) in patterns.iter_mut().zip(numbers.chunks(9)) {
+        *pattern = pattern_of(number);
+    }
+}
+
+// The first line of a text, without its end, and what follows that.
+fn first_line(text: &[u8]) -> Option<(&[u8], &[u8])>
+    ensures { IfSome result (λ parts. length parts.1.now < length text.now) }
+{
+    let end = text.iter().position(|byte| *byte == b'\n')?;
+    Some((&text[..end], &text[end + 1..]))
+}
+
+// Prints each line of a text and what parts it from its answer, and lets `answer` print on. The text is the first 262,144
+// bytes of the input, and its lines end in it.
 // Each program is a crate with a `main` of its own, which is one call of this, and an `answer` that names the calls by its own words.
 // Where to print and the call stay two parameters: what reads a call and prints nothing gets the call alone.
-pub fn run<R: Input + Print + AllocGlobal, F: FnMut(&R, Call<'_>) -> io::Result<()>>(
+pub fn run<R: Input + Print, F: FnMut(&R, Call<'_>) -> io::Result<()>>(
     rt: &R,
     between: &str,
+    form: Form,
     mut answer: F,
 ) -> io::Result<()>
     requires { F.IsAlwaysCallable answer }
 {
-    let alloc = rt.alloc();
-    for line in BufReader::new(alloc, rt.reader())?.lines(alloc) {
-        let line = line?;
-        let mut words = line.split_ascii_whitespace();
-        let word = words.next().unwrap_or("");
-        let mut patterns = Vec::new(alloc);
-        for digits in words {
-            patterns.push(u32::from_str_radix(digits, 16).unwrap_or(0))?;
-        }
-        print!(rt; "{line}{between}")?;
+    let mut text = [0; 262144];
+    let mut patterns = [0; 2048];
+    read_full(&mut rt.reader(), &mut text)?;
+    let mut rest = &text[..];
+    while let Some((line, after)) = first_line(rest) {
+        let numbers = &line[form.numbers_place(line)..];
+        let given = numbers.len().div_ceil(9);
+        read_patterns(numbers, &mut patterns);
+        io::writer(rt).write_all(line)?;
+        print!(rt; "{between}")?;
+        let patterns = &patterns[..given.min(2048)];
         answer(
             rt,
             Call {
-                word,
-                patterns: &patterns,
+                line,
+                given,
+                patterns,
             },
         )?;
+        rest = after;
     }
     Ok(())
 }

@@ -6,13 +6,13 @@
 ghost use Rattle.std.specs.Prelude.{◌<◌};
 
 use command::{Outcome, Size};
-use pattern_text::{Call, Drawn, Needed};
+use pattern_text::{Call, Drawn, Form, Needed};
 use std::io;
 
 // A path or an item, by a call's word. It is asked in three places: an enum that the line is read to would be matched in the
 // same three.
 fn is_item(call: Call<'_>) -> bool {
-    call.word == "item" || call.word == "need-item"
+    call.line[pattern_text::word_place(call.line)..].starts_with(b"i")
 }
 
 // The place of how many numbers are lent to the call. For a drawing, how many codes and numbers the buffers have follows.
@@ -73,13 +73,15 @@ fn need_of(call: Call<'_>) -> Outcome<Size> {
     }
 }
 
+// The program of merges has an `answer` of this shape: each names calls of its own.
 fn answer(rt: &impl Print, call: Call<'_>) -> io::Result<()> {
-    match call.word {
-        "need-path" | "need-item" => println!(rt; "{}", Needed(need_of(call))),
-        _ => draw(rt, call),
+    if call.line.starts_with(b"n") {
+        println!(rt; "{}", Needed(need_of(call)))
+    } else {
+        draw(rt, call)
     }
 }
 
 fn main(rt: HostRuntime) -> io::Result<()> {
-    pattern_text::run(&rt, "\n", answer)
+    pattern_text::run(&rt, "\n", Form::MayNeed, answer)
 }

@@ -3,7 +3,7 @@
 // tools/length_vectors.py makes the lines and says how they read.
 #![tactic(auto)]
 
-use pattern_text::{Answer, Bits, Call, Floats, Pair};
+use pattern_text::{Answer, Bits, Call, Floats, Form, Pair};
 use std::io;
 
 fn length_of(codes: &[u8], numbers: &[f32]) -> Answer<Pair<&'static str, Bits>> {
@@ -36,19 +36,23 @@ fn answer_command(rt: &impl Print, codes: &[u8], numbers: &[f32], k: usize) -> i
 
 // Calls with the first places of two lists, so many as the line says. A measure's line has no number before these.
 fn answer(rt: &impl Print, call: Call<'_>) -> io::Result<()> {
-    let place = if call.word == "measure" { 0 } else { 1 };
+    let is_command = call.line.starts_with(b"c");
+    let is_reach = call.line.starts_with(b"r");
+    let place = if is_command || is_reach { 1 } else { 0 };
     let mut codes = [0; 262150];
     let mut numbers = [0.0; 6150];
     let codes = &mut codes[..call.lent(place, 262150)];
     let numbers = &mut numbers[..call.lent(place + 1, 6150)];
     call.fill_path(place + 2, codes, numbers);
-    match call.word {
-        "command" => answer_command(rt, codes, numbers, call.size(0)),
-        "reach" => println!(rt; "{}", reached_of(codes, numbers, call.float(0))),
-        _ => println!(rt; "{}", length_of(codes, numbers)),
+    if is_command {
+        answer_command(rt, codes, numbers, call.size(0))
+    } else if is_reach {
+        println!(rt; "{}", reached_of(codes, numbers, call.float(0)))
+    } else {
+        println!(rt; "{}", length_of(codes, numbers))
     }
 }
 
 fn main(rt: HostRuntime) -> io::Result<()> {
-    pattern_text::run(&rt, "\n", answer)
+    pattern_text::run(&rt, "\n", Form::ByLength, answer)
 }

@@ -6,7 +6,7 @@
 ghost use Rattle.std.specs.Prelude.{◌<◌};
 
 use command::{Outcome, Size};
-use pattern_text::{Call, Drawn, Needed};
+use pattern_text::{Call, Drawn, Form, Needed};
 use std::io;
 
 // The entries of a row, which is written as one number.
@@ -32,7 +32,7 @@ fn given(call: Call<'_>) -> usize
 fn fill_rows(call: Call<'_>, rows: &mut [u32]) {
     let n = given(call);
     for (r, row) in rows.chunks_exact_mut(6).enumerate() {
-        row.copy_from_slice(&entries(call.field(5 + r.min(n.saturating_sub(1)))));
+        row.copy_from_slice(&entries(call.field((5 + r).min(4 + n))));
     }
     if let Some(entry) = rows.get_mut(call.size(2)) {
         *entry = call.field(3);
@@ -76,13 +76,15 @@ fn need_of(call: Call<'_>) -> Outcome<Size> {
     )
 }
 
+// The program of drawing has an `answer` of this shape: each names calls of its own.
 fn answer(rt: &impl Print, call: Call<'_>) -> io::Result<()> {
-    match call.word {
-        "need-merge" => println!(rt; "{}", Needed(need_of(call))),
-        _ => merge(rt, call),
+    if call.line.starts_with(b"n") {
+        println!(rt; "{}", Needed(need_of(call)))
+    } else {
+        merge(rt, call)
     }
 }
 
 fn main(rt: HostRuntime) -> io::Result<()> {
-    pattern_text::run(&rt, "\n", answer)
+    pattern_text::run(&rt, "\n", Form::MayNeed, answer)
 }

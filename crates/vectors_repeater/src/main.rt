@@ -2,7 +2,9 @@
 // tools/repeater_vectors.py makes the lines and says how they read.
 #![tactic(auto)]
 
-use pattern_text::{Answer, Call, Floats, Pair};
+ghost use Rattle.std.specs.Prelude.{◌≤◌, length};
+
+use pattern_text::{Answer, Call, Floats, Form, Pair};
 use repeater::RepeaterStyle;
 use std::io;
 use std::num::f32_from_bits_with_nan;
@@ -45,11 +47,18 @@ fn turning(rotation: f32) -> RepeaterStyle {
     copies::repeater_of(&numbers, 1)
 }
 
+// The rotations of a line, or the first 64 where it has more.
+fn rotations(call: Call<'_>) -> &[u32]
+    ensures { length result.now ≤ 64 }
+{
+    &call.patterns[..call.patterns.len().min(64)]
+}
+
 // Answers with the numbers a, b, c and d of copy 1 for each rotation of a line, or what their places hold where it is
 // refused.
 fn answer_turns(rt: &impl Print, call: Call<'_>) -> io::Result<()> {
     print!(rt; "places")?;
-    for pattern in call.patterns {
+    for pattern in rotations(call) {
         let rotation = f32_from_bits_with_nan(*pattern);
         let mut numbers = [-77.25; 7];
         let _written = copies::copy_transform(turning(rotation), 1, &mut numbers);
@@ -59,13 +68,13 @@ fn answer_turns(rt: &impl Print, call: Call<'_>) -> io::Result<()> {
 }
 
 fn answer(rt: &impl Print, call: Call<'_>) -> io::Result<()> {
-    match call.word {
-        "order" => answer_order(rt, call),
-        "turn" => answer_turns(rt, call),
+    match call.line.first() {
+        Some(b'o') => answer_order(rt, call),
+        Some(b't') => answer_turns(rt, call),
         _ => answer_copy(rt, call),
     }
 }
 
 fn main(rt: HostRuntime) -> io::Result<()> {
-    pattern_text::run(&rt, "\n", answer)
+    pattern_text::run(&rt, "\n", Form::ByLength, answer)
 }

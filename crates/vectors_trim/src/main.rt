@@ -2,7 +2,7 @@
 // tools/trim_vectors.py makes the lines and says how they read.
 #![tactic(auto)]
 
-use pattern_text::{Answer, Bits, Call, Floats};
+use pattern_text::{Answer, Bits, Call, Floats, Form};
 use std::{fmt, io};
 use trim::{Ranges, TrimStyle};
 
@@ -90,7 +90,7 @@ fn cuts_of(call: Call<'_>) -> Answer<ShownCuts> {
 }
 
 fn answer(rt: &impl Print, call: Call<'_>) -> io::Result<()> {
-    if call.word == "ranges" {
+    if call.line.starts_with(b"r") {
         println!(rt; "{}", ranges_of(call))
     } else {
         println!(rt; "{}", cuts_of(call))
@@ -98,5 +98,5 @@ fn answer(rt: &impl Print, call: Call<'_>) -> io::Result<()> {
 }
 
 fn main(rt: HostRuntime) -> io::Result<()> {
-    pattern_text::run(&rt, "\n", answer)
+    pattern_text::run(&rt, "\n", Form::ByLength, answer)
 }
