@@ -1,7 +1,7 @@
 // The calls that draw a vertex list or one item row: the checks in document 01's order, then the writing.
 #![tactic(auto)]
 
-ghost use Rattle.std.specs.Prelude.{◌≡◌, ◌+◌, ◌≤◌, length, drop, false};
+ghost use Rattle.std.specs.Prelude.{◌≡◌, ◌+◌, ◌≤◌, length, drop, false, IfOk};
 ghost use Rattle.command.specs.Outcomes.{checked, mapped};
 ghost use Rattle.command.specs.Buffers.{DrawnInto};
 ghost use Rattle.item.specs.Rows.{item_row, entries_of};
@@ -67,7 +67,8 @@ fn is_held_back(row: ItemRow) -> bool
 #[tactic(auto, using(crate::proofs::Ways::kinds), unfolding(crate::specs::Items::shape_drawn, crate::specs::Items::item_shape))]
 pub fn shape_of<'a>(row: ItemRow, items: &'a [f32]) -> Outcome<Drawing<'a>>
     requires { (has_no_vertices row ≡ false) × (row.count ≤ 1024) × (row.place + entries_of row ≤ length items.now) }
-    ensures { mapped commands_of result ≡ shape_drawn row (drop row.place items.now) }
+    ensures drawn { mapped commands_of result ≡ shape_drawn row (drop row.place items.now) }
+    ensures placed { IfOk result (λ d. d.list.now ≡ drop row.place items.now) }
 {
     let list = &items[row.place..];
     let shape = match row.kind {

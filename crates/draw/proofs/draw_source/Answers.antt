@@ -9,5 +9,5 @@ returns-in_err-check_source c =
 
 pub returns-in_err-drawing : goal.returns-in_err-drawing
 returns-in_err-drawing c =
-    both_handed _ _ (source_made_as _ _ _ c.check_source.ensures c.in_ok-check_source.was _ c.shape_of.ensures _ c.in_err-drawing.was) _ _
+    both_handed _ _ (source_made_as _ _ _ c.check_source.ensures c.in_ok-check_source.was _ c.shape_of.ensures.drawn _ c.in_err-drawing.was) _ _
     c.from_residual-in_err-drawing.ensures.1 _ _
