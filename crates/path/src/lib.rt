@@ -19,6 +19,13 @@ pub struct BezierVertex {
     pub oy: f32,
 }
 
+// A vertex that a walk over a path has come to, and the place after the numbers on the way to it.
+#[derive(Clone, Copy)]
+pub struct Reached {
+    pub vertex: BezierVertex,
+    pub at: usize,
+}
+
 // Within 1e-4, equality included.
 pub fn approx_eq(a: f32, b: f32) -> bool
     ensures { result ≡ approx_eq a b }

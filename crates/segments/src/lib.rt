@@ -10,14 +10,7 @@ ghost use Rattle.path.specs.Path.{vertex_at, path_commands};
 ghost use Rattle.path.specs.Between.{path_along, segments_along};
 ghost use Rattle.segments.specs.Leaves.{leaves, Passed};
 
-use path::{BezierVertex, Outline, Vertices};
-
-// A vertex that a walk over a path has come to, and how many numbers there are on the way to it.
-#[derive(Clone, Copy)]
-struct Reached {
-    pub vertex: BezierVertex,
-    pub at: usize,
-}
+use path::{Outline, Reached, Vertices};
 
 // Whether the x of the out-tangent at vertex j is enough to make the segment from there a cubic. Of the list alone, as `vertex_at` takes
 // it: with `Vertices` each clause would name `vertices.now.numbers.now`.
