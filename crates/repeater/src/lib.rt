@@ -104,16 +104,22 @@ fn upright_concat(m: Matrix, n: Matrix) -> Matrix
     }
 }
 
-// So many steps, one after another. Those that neither turn nor mirror are taken by the quick product, which is right where
-// the scale is finite at the end.
+// So many steps that neither turn nor mirror. They are right where the scale is finite at the end.
+fn upright_steps(n: u64, step: Matrix) -> Matrix
+    ensures { result ≡ upright.upright_steps n step }
+{
+    (0..n).fold(
+        Matrix::identity(),
+        |transform, _| upright_concat(transform, step),
+    )
+}
+
+// So many steps, one after another, by the quick way where it is right.
 fn steps(n: u64, step: Matrix) -> Matrix
     ensures { result ≡ spec.steps n step }
 {
     if is_upright(step) {
-        let quick = (0..n).fold(
-            Matrix::identity(),
-            |transform, _| upright_concat(transform, step),
-        );
+        let quick = upright_steps(n, step);
         if float::is_finite(quick.a) && float::is_finite(quick.d) {
             return quick;
         }
