@@ -24,11 +24,15 @@ fn is_union(row: ItemRow) -> bool
     is_top(row) && row.kind == Kind::Merge && row.mark == 1
 }
 
-// Whether a row is a visible source at depth 0.
+// Whether a row is a visible source at depth 0. The kind is asked first and with a branch: most rows that are no source are told by it.
 pub fn is_source(row: ItemRow) -> bool
     ensures { result ≡ is_source_row row }
 {
-    is_top(row) && row.kind.is_source()
+    if row.kind.is_source() {
+        is_top(row)
+    } else {
+        false
+    }
 }
 
 // Whether a row, with the rows after it, may stand before the merge row.
@@ -79,13 +83,10 @@ fn may_follow(row: ItemRow, clean: bool) -> bool
 fn is_clean_after(row: ItemRow, clean: bool) -> bool
     ensures { result ≡ clean_after clean row }
 {
-    if !is_top(row) {
-        return clean;
-    }
-    match row.kind {
-        Kind::Merge => true,
-        Kind::Transform => clean,
-        _ => false,
+    if is_top(row) && row.kind != Kind::Transform {
+        row.kind == Kind::Merge
+    } else {
+        clean
     }
 }
 

@@ -74,8 +74,10 @@ fn is_plain_child(row: ItemRow, group: u32) -> bool
 }
 
 // Whether a row, with the rows after it, is a group with nothing to draw: `group_is_render_merge_noop` of drawing_paths.rs.
+// It is inlined, so that a walk over nested groups calls itself once for each and hands no row on.
 #[cycle(children_empty_group_empty)]
 #[tactic(auto, unfolding(crate::specs::Flat::group_empty))]
+#[inline(always)]
 pub fn group_empty(row: ItemRow, after: &[[u32; 6]]) -> bool
     ensures { result ≡ group_empty row (map row_of after.now) }
 {
