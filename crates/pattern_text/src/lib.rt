@@ -3,7 +3,8 @@
 // stands at its place, whatever is written there.
 #![tactic(auto)]
 
-ghost use Rattle.std.specs.Prelude.{◌≡◌, ◌%◌, ◌<◌, ◌≤◌, length, get_or, drop, min, IfOk, IfSome};
+ghost use Rattle.std.specs.Prelude.{◌≡◌, ◌%◌, ◌<◌, ◌≤◌, length, get_or, drop, min, None, IfOk, IfSome, IfNone};
+ghost use Rattle.pattern_text.specs.Text.{place_of, FirstLine, word_place, numbers_place, GoesWell, Answered};
 
 use command::{Outcome, Size};
 use std::io::{Read, Write};
@@ -26,7 +27,7 @@ pub fn read_full(input: &mut impl Read, text: &mut [u8]) -> io::Result<usize>
     Ok(done)
 }
 
-// A call that a line asks for: the line, how many numbers are in it, and these, or the first 2,048 of them: no call reads more.
+// A call that a line asks for: the line, how many numbers are in it, and these, or the first of them that there was room for.
 #[derive(Clone, Copy)]
 pub struct Call<'a> {
     pub line: &'a [u8],
@@ -221,6 +222,13 @@ fn pattern_of(number: &[u8]) -> u32 {
     pattern
 }
 
+// The first place of a byte.
+fn place_of(byte: u8, text: &[u8]) -> Option<usize>
+    ensures { result ≡ place_of byte text.now }
+{
+    text.iter().position(|b| *b == byte)
+}
+
 // Where the numbers begin in a line. The lines of a program are all of one form.
 #[derive(Clone, Copy)]
 pub enum Form {
@@ -234,7 +242,8 @@ pub enum Form {
 
 // Where the word of a call stands in a line that may ask what the call needs: after `need-`.
 pub fn word_place(line: &[u8]) -> usize
-    ensures { result ≤ length line.now }
+    ensures within { result ≤ length line.now }
+    ensures value { result ≡ word_place line.now }
 {
     if line.starts_with(b"n") && line.len() >= 5 {
         5
@@ -245,22 +254,19 @@ pub fn word_place(line: &[u8]) -> usize
 
 impl Form {
     fn numbers_place(self, line: &[u8]) -> usize
-        ensures { result ≤ length line.now }
+        ensures within { result ≤ length line.now }
+        ensures value { result ≡ numbers_place self line.now }
     {
-        let place = match self {
+        match self {
             Form::ByLength => line.len() % 9,
             Form::MayNeed => word_place(line) + (line.len() - word_place(line)) % 9,
-            Form::AtBlank => line
-                .iter()
-                .position(|byte| *byte == b' ')
-                .unwrap_or(line.len()),
-        };
-        place.min(line.len())
+            Form::AtBlank => place_of(b' ', line).unwrap_or(line.len()),
+        }
     }
 }
 
 // Puts down the patterns of numbers from the start of a list, so many as it holds.
-fn read_patterns(numbers: &[u8], patterns: &mut [u32; 2048]) {
+fn read_patterns(numbers: &[u8], patterns: &mut [u32]) {
     for (pattern, number) in patterns.iter_mut().zip(numbers.chunks(9)) {
         *pattern = pattern_of(number);
     }
@@ -268,14 +274,16 @@ fn read_patterns(numbers: &[u8], patterns: &mut [u32; 2048]) {
 
 // The first line of a text, without its end, and what follows that.
 fn first_line(text: &[u8]) -> Option<(&[u8], &[u8])>
-    ensures { IfSome result (λ parts. length parts.1.now < length text.now) }
+    ensures none { IfNone result (place_of 10 text.now ≡ None) }
+    ensures line { IfSome result (λ parts. FirstLine text.now parts.0.now parts.1.now) }
+    ensures less { IfSome result (λ parts. length parts.1.now < length text.now) }
 {
-    let end = text.iter().position(|byte| *byte == b'\n')?;
+    let end = place_of(b'\n', text)?;
     Some((&text[..end], &text[end + 1..]))
 }
 
 // Prints each line of a text and what parts it from its answer, and lets `answer` print on. The text is the first 262,144
-// bytes of the input, and its lines end in it.
+// bytes of the input, and its lines end in it. A call has the first 2,048 numbers of its line: no program reads more.
 // Each program is a crate with a `main` of its own, which is one call of this, and an `answer` that names the calls by its own words.
 // Where to print and the call stay two parameters: what reads a call and prints nothing gets the call alone.
 pub fn run<R: Input + Print, F: FnMut(&R, Call<'_>) -> io::Result<()>>(
@@ -289,14 +297,30 @@ pub fn run<R: Input + Print, F: FnMut(&R, Call<'_>) -> io::Result<()>>(
     let mut text = [0; 262144];
     let mut patterns = [0; 2048];
     read_full(&mut rt.reader(), &mut text)?;
-    let mut rest = &text[..];
+    run_text(rt, between, form, &text, &mut patterns, &mut answer)
+}
+
+// Likewise for a text of any length, which is lent, and its lines that end in it. `patterns` is room for the numbers of a line.
+pub fn run_text<R: Print, F: FnMut(&R, Call<'_>) -> io::Result<()>>(
+    rt: &R,
+    between: &str,
+    form: Form,
+    text: &[u8],
+    patterns: &mut [u32],
+    answer: &mut F,
+) -> io::Result<()>
+    requires { F.IsAlwaysCallable answer.old }
+    ensures callable { F.IsAlwaysCallable answer.new }
+    ensures answered { IfOk result (λ _. Answered (GoesWell F.step rt.entry.now form (length patterns.old)) answer.old text.now answer.new) }
+{
+    let mut rest = text;
     while let Some((line, after)) = first_line(rest) {
         let numbers = &line[form.numbers_place(line)..];
         let given = numbers.len().div_ceil(9);
-        read_patterns(numbers, &mut patterns);
+        read_patterns(numbers, patterns);
         io::writer(rt).write_all(line)?;
         print!(rt; "{between}")?;
-        let patterns = &patterns[..given.min(2048)];
+        let patterns = &patterns[..given.min(patterns.len())];
         answer(
             rt,
             Call {

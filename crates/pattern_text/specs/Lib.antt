@@ -1,0 +1,2 @@
+-- What the vectors programs read in a text.
+pub mod Text
